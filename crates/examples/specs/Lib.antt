@@ -1,0 +1,2 @@
+pub mod FileM
+pub mod Worked
