@@ -1,6 +1,13 @@
-//! Big-endian words in a slice of bytes.
+//! Big-endian words in a slice of bytes, and moves inside a buffer.
+mod moves;
 mod words;
 
+pub use moves::shift_down;
+pub use moves::shift_up;
+pub use moves::write_bytes;
+pub use moves::write_word16;
+pub use moves::write_word32;
+pub use moves::zero_bytes;
 pub use words::int16_at;
 pub use words::int32_at;
 pub use words::word16_at;

@@ -14,6 +14,13 @@ worked =
       extent-4 = refl;
       extent-5 = refl;
       accepted = refl;
+      content-M = refl;
+      again-M = refl;
+      version-4 = record { accepted = refl; again = refl };
+      version-5 = record { accepted = refl; again = refl };
+      version-6 = record { accepted = refl; again = refl };
+      version-7 = record { accepted = refl; again = refl };
+      version-32 = record { accepted = refl; again = refl };
       disagree = record { fault = fault ExtentsDisagree 12; refused = refl; number-is = refl; layer-is = refl; block-is = refl; place-is = refl };
       head-cut = record { fault = in-block BlockHeadCut 2 116; refused = refl; number-is = refl; layer-is = refl; block-is = refl; place-is = refl };
       data-cut = record { fault = in-block BlockDataCut 1 108; refused = refl; number-is = refl; layer-is = refl; block-is = refl; place-is = refl };

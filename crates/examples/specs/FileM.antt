@@ -1,9 +1,10 @@
--- File M, the smallest file of version 6 with blocks: one range cell of one bin, without quality.
+-- File M, the smallest file of version 6 with blocks: one range cell of one bin, without quality. And contents to write.
 use mathlib.Core.List.{List, [], _∷_, _++_}
 use Prim.Native.Nat.{ℕ, zero, suc, _+_}
 use lib.Chars.{codes}
 use lib.ListN.{take, drop}
 use Rattle.bytes.specs.Words.{be16, be32}
+use Rattle.format.specs.Content.{Block, Content}
 
 -- words of 32 bits, one behind the other
 abbrev pub words : List ℕ → List ℕ
@@ -38,3 +39,20 @@ file-M = levels-1-to-3 ++ level-4 ++ level-5 ++ level-6 ++ count 36 1
 -- the same bytes, with the 32-bit word x at a place
 abbrev pub put32 : List ℕ → ℕ → ℕ → List ℕ
 put32 b at x = take at b ++ be32 x ++ drop (at + 4) b
+
+-- two blocks, the second of which is empty
+abbrev pub sample-blocks : List Block
+sample-blocks = record { key = codes "ZONE"; body = 71 ∷ 77 ∷ 84 ∷ 0 ∷ 81 ∷ [] } ∷ record { key = codes "XTRA"; body = [] } ∷ []
+
+-- a content of version v with that many fields and those blocks, a gap of five bytes, one cell of one bin with quality,
+-- and a tail of three bytes
+abbrev pub sample : ℕ → ℕ → List Block → Content
+sample v n ks =
+    record {
+      version = v;
+      fields = take n (4294967295 ∷ 2 ∷ 3 ∷ 4 ∷ 5 ∷ 6 ∷ 7 ∷ 8 ∷ 9 ∷ 10 ∷ 1 ∷ 1 ∷ 13 ∷ 14 ∷ 15 ∷ 16 ∷ 17 ∷ 18 ∷ 3 ∷ 20 ∷ []);
+      blocks = ks;
+      gap = count 5 200;
+      cells = count 40 1;
+      tail = count 3 100;
+    }

@@ -1,17 +1,26 @@
 -- The worked examples of file M, stated of the definitions.
-use mathlib.Core.Bool.{false}
+use mathlib.Core.Bool.{true, false}
+use mathlib.Core.List.{[], _∷_}
 use mathlib.Core.Path.{_≡_}
 use Prim.Native.Nat.{ℕ}
+use lib.Chars.{codes}
 use lib.IntN.{pos}
 use lib.ListN.{length}
+use Rattle.std.specs.Results.{isOk}
 use Rattle.std.specs.declared.result.Result.{Result}
 use Rattle.std.specs.declared.result.Result.the-variants.{Ok, Err}
 use Rattle.bytes.specs.Words.{int32}
 use Rattle.faults.specs.declared.fault.Fault.{Fault}
 use Rattle.faults.specs.Numbers.{numberOf, layer-number}
 use Rattle.format.specs.declared.judging.Layout.{Layout}
+use Rattle.format.specs.Content.{Content, write, content}
 use Rattle.format.specs.Judging.{judged}
-use Rattle.examples.specs.FileM.{file-M, put32}
+use Rattle.examples.specs.FileM.{count, file-M, put32, sample, sample-blocks}
+
+-- the bytes of a content are accepted, and that content is read from them again
+pub record Returns (c : Content) : Type 0 where
+  pub accepted : isOk (judged (write c)) ≡ true
+  pub again : content (write c) ≡ c
 
 -- refused with that number, layer, block and place
 pub record Refused (r : Result Layout Fault) (number layer block place : ℕ) : Type 0 where
@@ -39,6 +48,22 @@ pub record Worked : Type 0 where
     section = 20;
     blocks = 2;
   })
+  -- its content is read so, and written again it is M
+  pub content-M : content file-M ≡ record {
+    version = 6;
+    fields = 0 ∷ 1 ∷ 0 ∷ 0 ∷ 0 ∷ 0 ∷ 0 ∷ 0 ∷ 0 ∷ 0 ∷ 1 ∷ 1 ∷ 1 ∷ 0 ∷ 0 ∷ 0 ∷ 0 ∷ 0 ∷ 3 ∷ 0 ∷ [];
+    blocks = record { key = codes "FILL"; body = 1 ∷ 2 ∷ 2 ∷ 4 ∷ [] } ∷ record { key = codes "XTRA"; body = [] } ∷ [];
+    gap = [];
+    cells = count 36 1;
+    tail = [];
+  }
+  pub again-M : write (content file-M) ≡ file-M
+  -- contents with a gap and a tail, from version 6 on with two blocks, are read as they were written
+  pub version-4 : Returns (sample 4 14 [])
+  pub version-5 : Returns (sample 5 20 [])
+  pub version-6 : Returns (sample 6 20 sample-blocks)
+  pub version-7 : Returns (sample 7 20 sample-blocks)
+  pub version-32 : Returns (sample 32 20 sample-blocks)
   -- with extent 2 = 107 it is refused by 4, header, place 12
   pub disagree : Refused (judged (put32 file-M 12 107)) 4 2 0 12
   -- with the section's size 19 it is refused by 9, section, block 2, place 116

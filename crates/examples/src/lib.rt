@@ -1,6 +1,6 @@
 //! The worked examples: file M, and what the definitions say of it.
 ghost use mathlib.Core.Path.{_≡_};
-ghost use Rattle.examples.specs.FileM.{file-M};
+ghost use Rattle.examples.specs.FileM.{file-M, put32};
 ghost use Rattle.examples.specs.Worked.{Worked};
 
 /// The bytes of file M.
@@ -27,6 +27,24 @@ pub fn example_file() -> [u8; 160]
     ensures worked { λ _. ⌜ Worked ⌝ }
 {
     bytes_of_m()
+}
+
+/// File M with extent 2 one too small.
+pub fn example_with_extent() -> [u8; 160]
+    ensures { λ r. ⌜ r ≡ put32 file-M 12 107 ⌝ }
+{
+    let mut bytes = example_file();
+    bytes[15] = 107;
+    bytes
+}
+
+/// File M with a section one byte too short for its blocks.
+pub fn example_with_section() -> [u8; 160]
+    ensures { λ r. ⌜ r ≡ put32 file-M 100 19 ⌝ }
+{
+    let mut bytes = example_file();
+    bytes[103] = 19;
+    bytes
 }
 
 #[cfg(test)]

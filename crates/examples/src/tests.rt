@@ -1,5 +1,11 @@
-//! The ten checks of judging, each at both sides of its edge, and the versions and kinds.
+//! The ten checks of judging, each at both sides of its edge, the versions and kinds, and the moves in a buffer.
 use crate::example_file;
+use bytes::shift_down;
+use bytes::shift_up;
+use bytes::write_bytes;
+use bytes::write_word16;
+use bytes::write_word32;
+use bytes::zero_bytes;
 use faults::FaultDebug;
 use format::judge;
 use std::alloc::AllocError;
@@ -198,6 +204,33 @@ fn kinds_and_quality(rt: LibcRuntime) -> Result<(), Fail> {
 }
 
 #[test]
+fn a_gap_and_a_tail_at_every_version(rt: LibcRuntime) -> Result<(), Fail> {
+    // the version, where the header ends, and the bytes of the cells: a gap of five bytes before them, a tail of three
+    let table = [
+        (1, 10u32, 571392),
+        (2, 16, 571392),
+        (3, 24, 571392),
+        (4, 72, 36),
+        (5, 100, 36),
+        (6, 104, 36),
+        (7, 104, 36),
+        (32, 104, 36usize),
+    ];
+    for (version, end, cells) in table {
+        let start = end + 5;
+        let bytes = file(rt.alloc(), version, start, end as usize + 5 + cells + 3)?;
+        let layout = judge(bytes.as_slice())?;
+        check_eq(layout.start, start as usize)?;
+        check_eq((layout.section, layout.blocks), (0, 0))?;
+        let cut = bytes.as_slice();
+        check(cut.len() > 4)?;
+        check_eq(told(&cut[0..cut.len() - 3]), SOUND)?;
+        check_eq(told(&cut[0..cut.len() - 4]), (11, 1, 0, start as usize))?;
+    }
+    Ok(())
+}
+
+#[test]
 fn thirty_one_cells_of_version_four(rt: LibcRuntime) -> Result<(), Fail> {
     let mut bytes = file(rt.alloc(), 4, 72, 571464)?;
     put32(bytes.as_mut_slice(), 52, 512);
@@ -220,4 +253,33 @@ fn blocks_of_the_example() -> Result<(), Fail> {
     put32(&mut long, 108, 4);
     put32(&mut long, 120, 1);
     check_eq(told(&long), (10, 3, 2, 120))
+}
+
+#[test]
+fn moves_in_a_buffer() -> Result<(), Fail> {
+    let mut buf = [1, 2, 3, 4, 5, 6, 7, 8];
+    check(shift_up(&mut buf, 2, 4, 2))?;
+    check_eq(buf, [1, 2, 3, 4, 3, 4, 5, 6])?;
+    check(shift_down(&mut buf, 4, 4, 3))?;
+    check_eq(buf, [1, 3, 4, 5, 6, 4, 5, 6])?;
+    check(zero_bytes(&mut buf, 5, 3))?;
+    check(write_bytes(&mut buf, 6, &[9, 8]))?;
+    check_eq(buf, [1, 3, 4, 5, 6, 0, 9, 8])?;
+    check(write_word32(&mut buf, 0, 16909060))?;
+    check(write_word16(&mut buf, 4, 1286))?;
+    check_eq(buf, [1, 2, 3, 4, 5, 6, 9, 8])
+}
+
+#[test]
+fn moves_past_the_end_change_nothing() -> Result<(), Fail> {
+    let mut buf = [1, 2, 3, 4];
+    check(!shift_up(&mut buf, 1, 3, 1))?;
+    check(!shift_up(&mut buf, 1, 1, 18446744073709551615))?;
+    check(!shift_down(&mut buf, 1, 2, 2))?;
+    check(!shift_down(&mut buf, 2, 3, 1))?;
+    check(!zero_bytes(&mut buf, 4, 1))?;
+    check(!write_bytes(&mut buf, 3, &[9, 9]))?;
+    check(!write_word16(&mut buf, 18446744073709551615, 7))?;
+    check(!write_word32(&mut buf, 1, 7))?;
+    check_eq(buf, [1, 2, 3, 4])
 }

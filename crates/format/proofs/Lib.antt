@@ -1,2 +1,9 @@
 pub mod Walk
 pub mod InOrder
+pub mod Slots
+pub mod Pieces
+pub mod Blocks
+pub mod Rules
+pub mod Trip
+pub mod Spots
+pub mod Writing

@@ -5,3 +5,5 @@ pub mod Checks
 pub mod Section
 pub mod Judging
 pub mod Shown
+pub mod Content
+pub mod Changes

@@ -11,16 +11,24 @@ use Rattle.format.specs.declared.sizes.Sizes.{Sizes}
 use Rattle.format.specs.Header.{pattern}
 
 -- a quality row is present from version 2 on when field 2, taken as signed, is at least 2
-abbrev pub has-quality : List ℕ → ℕ → Bool
-has-quality b v = leb 2 v && leZ (pos 2) (toZ w16 (pattern b 2))
+abbrev pub quality-in : ℕ → (ℕ → ℕ) → Bool
+quality-in v value = leb 2 v && leZ (pos 2) (toZ w16 (value 2))
 
--- below version 4 a file has 31 range cells from number 1 on, of 512 bins; below version 5 it has 3 channels
-abbrev pub sizes-of : List ℕ → ℕ → Sizes
-sizes-of b v =
+-- the sizes of a file of version v whose field n has the pattern `value n`: below version 4 it has 31 range cells from
+-- number 1 on, of 512 bins; below version 5 it has 3 channels
+abbrev pub sizes-in : ℕ → (ℕ → ℕ) → Sizes
+sizes-in v value =
     record {
-      ranges = cond (ltb v 4) 31 (pattern b 12);
-      bins = cond (ltb v 4) 512 (pattern b 11);
-      channels = cond (ltb v 5) 3 (pattern b 19);
-      first = cond (ltb v 4) 1 (pattern b 13);
-      quality = has-quality b v;
+      ranges = cond (ltb v 4) 31 (value 12);
+      bins = cond (ltb v 4) 512 (value 11);
+      channels = cond (ltb v 5) 3 (value 19);
+      first = cond (ltb v 4) 1 (value 13);
+      quality = quality-in v value;
     }
+
+-- the sizes that a file's header gives
+abbrev pub has-quality : List ℕ → ℕ → Bool
+has-quality b v = quality-in v (pattern b)
+
+abbrev pub sizes-of : List ℕ → ℕ → Sizes
+sizes-of b v = sizes-in v (pattern b)

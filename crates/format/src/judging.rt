@@ -3,6 +3,8 @@ ghost use mathlib.Core.Path.{_≡_};
 ghost use Prim.Native.Nat.{_≤_};
 ghost use Rattle.std.specs.Results.{Cases};
 ghost use Rattle.format.specs.Checks.{all-of};
+ghost use Rattle.format.specs.Changes.{WritingChanges};
+ghost use Rattle.format.specs.Content.{content, WritingOf, Unwritten};
 ghost use Rattle.format.specs.Judging.{holding, blocks-of, judged, judged-in-groups, FirstRefusal, Filled, CutThere};
 ghost use Rattle.format.specs.Sizes.{sizes-of};
 use crate::header::check_agreeing;
@@ -80,11 +82,15 @@ fn run_checks(bytes: &[u8]) -> Result<Layout, Fault>
 
 /// Judges a whole file: the layout of a sound one, or the first rule that it breaks.
 ///
+/// Accepts the bytes exactly where a sound content is written so; that content is the only one.
+///
 /// Looks at the header and at the head of each block only, and allocates nothing.
 pub fn judge(bytes: &[u8]) -> Result<Layout, Fault>
     ensures exact { λ r. ⌜ r ≡ judged (now (bytes .entry)) ⌝ }
     ensures first { λ r. ⌜ FirstRefusal (now (bytes .entry)) r ⌝ }
     ensures blocks { λ r. ⌜ Cases r (Filled (now (bytes .entry))) (CutThere (now (bytes .entry))) ⌝ }
+    ensures content { λ r. ⌜ Cases r (λ _. WritingOf (now (bytes .entry)) (content (now (bytes .entry)))) (λ _. Unwritten (now (bytes .entry))) ⌝ }
+    ensures changes { λ _. ⌜ WritingChanges ⌝ }
 {
     run_checks(bytes)
 }

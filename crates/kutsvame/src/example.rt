@@ -1,6 +1,8 @@
 //! What the program does with no words: the built-in example file and two damaged copies.
 use crate::judge::verdict_line;
 use examples::example_file;
+use examples::example_with_extent;
+use examples::example_with_section;
 use format::judge;
 use std::io;
 
@@ -11,15 +13,18 @@ fn show(rt: &LibcRuntime, name: &str, bytes: &[u8]) -> io::Result<()> {
 
 /// Judges file M, M with extent 2 one too small, and M with its section one byte too short.
 pub fn judge_example(rt: &LibcRuntime) -> io::Result<()> {
-    let sound = example_file();
-    let mut extent = sound;
-    extent[15] = 107;
-    let mut section = sound;
-    section[103] = 19;
     rt.println(
         "The built-in example file M has 160 bytes. Judged whole, and with one byte changed:",
     )?;
-    show(rt, "M", &sound)?;
-    show(rt, "M with extent 2 = 107 in place of 108", &extent)?;
-    show(rt, "M with section size 19 in place of 20", &section)
+    show(rt, "M", &example_file())?;
+    show(
+        rt,
+        "M with extent 2 = 107 in place of 108",
+        &example_with_extent(),
+    )?;
+    show(
+        rt,
+        "M with section size 19 in place of 20",
+        &example_with_section(),
+    )
 }

@@ -1,0 +1,78 @@
+-- Words and their bytes: what was written is read, and what is read was written.
+use mathlib.Core.List.{List, [], _∷_, _++_}
+use mathlib.Core.Logic.{⊎-elim}
+use mathlib.Core.Path.{_≡_, refl, ap, sym, _∙_}
+use Prim.Native.Nat.{ℕ, _+_, _*_, _/_, _%_, _≤_, _<_}
+use native.Mathlib.Nat.{add-zero, zero-add}
+use native.Mathlib.Omega.{arith}
+use lib.ListN.{length, getD, drop}
+use Rattle.std.proofs.shelf.Elements.{all-getD, all-drop}
+use Rattle.std.proofs.shelf.Lists.{getD-drop, getD-past, drop-drop, length-drop}
+use Rattle.std.proofs.shelf.Tests.{cases-lt}
+use Rattle.bytes.specs.Words.{Width, two, four, size, limit, word, be, Bytes}
+
+byte-at : (b : List ℕ) (k : ℕ) → Bytes b → getD b k 0 < 256
+byte-at b k h =
+    ⊎-elim (λ l. all-getD (λ x. x < 256) b k 0 l h) (λ l. rw (getD-past b k 0 l) (omega arith)) (cases-lt k (length b))
+
+-- a word fits its width
+pub word-lt : (w : Width) (b : List ℕ) (at : ℕ) → Bytes b → word w b at < limit w
+word-lt two b at h = omega (arith, byte-at b at h, byte-at b (at + 1) h)
+word-lt four b at h = omega (arith, byte-at b at h, byte-at b (at + 1) h, byte-at b (at + 2) h, byte-at b (at + 3) h)
+
+-- the bytes of a number are bytes, as many as its width has
+pub be-bytes : (w : Width) (x : ℕ) → Bytes (be w x)
+be-bytes two x = (omega arith, (omega arith, tt))
+be-bytes four x = (omega arith, (omega arith, (omega arith, (omega arith, tt))))
+
+pub be-length : (w : Width) (x : ℕ) → length (be w x) ≡ size w
+be-length two x = refl
+be-length four x = refl
+
+word-be : (w : Width) (x : ℕ) (rest : List ℕ) → x < limit w → word w (be w x ++ rest) 0 ≡ x
+word-be two x rest h = omega arith
+word-be four x rest h = omega arith
+
+be-word : (w : Width) (y : List ℕ) → size w ≤ length y → Bytes y → be w (word w y 0) ++ drop (size w) y ≡ y
+be-word two (a ∷ b ∷ r) l h =
+    let p : (a * 256 + b) / 256 % 256 ≡ a = omega (arith, h .0, h .1 .0) in
+    let q : (a * 256 + b) % 256 ≡ b = omega (arith, h .0, h .1 .0) in
+    cc
+be-word two (a ∷ []) l h = absurd (omega arith)
+be-word two [] l h = absurd (omega arith)
+be-word four (a ∷ b ∷ c ∷ d ∷ r) l h =
+    let x = a * 16777216 + b * 65536 + c * 256 + d in
+    let p : x / 256 / 256 / 256 % 256 ≡ a = omega (arith, h .0, h .1 .0, h .1 .1 .0, h .1 .1 .1 .0) in
+    let q : x / 256 / 256 % 256 ≡ b = omega (arith, h .0, h .1 .0, h .1 .1 .0, h .1 .1 .1 .0) in
+    let s : x / 256 % 256 ≡ c = omega (arith, h .0, h .1 .0, h .1 .1 .0, h .1 .1 .1 .0) in
+    let t : x % 256 ≡ d = omega (arith, h .0, h .1 .0, h .1 .1 .0, h .1 .1 .1 .0) in
+    cc
+be-word four (a ∷ b ∷ c ∷ []) l h = absurd (omega arith)
+be-word four (a ∷ b ∷ []) l h = absurd (omega arith)
+be-word four (a ∷ []) l h = absurd (omega arith)
+be-word four [] l h = absurd (omega arith)
+
+-- a word at a place is the first word of what stands there
+word-drop : (w : Width) (b : List ℕ) (at : ℕ) → word w (drop at b) 0 ≡ word w b at
+word-drop two b at = simp (getD-drop, add-zero, zero-add)
+word-drop four b at = simp (getD-drop, add-zero, zero-add)
+
+drop-be : (w : Width) (x : ℕ) (rest : List ℕ) → drop (size w) (be w x ++ rest) ≡ rest
+drop-be two x rest = refl
+drop-be four x rest = refl
+
+-- the number that was written at a place is read there, and what follows it follows
+module _ (w : Width) (b : List ℕ) (at x : ℕ) (rest : List ℕ) (e : drop at b ≡ be w x ++ rest) where
+  pub reads : x < limit w → word w b at ≡ x
+  reads h = sym (word-drop w b at) ∙ ap (λ y. word w y 0) e ∙ word-be w x rest h
+
+  pub goes-on : drop (at + size w) b ≡ rest
+  goes-on = sym (drop-drop (size w) at b) ∙ ap (drop (size w)) e ∙ drop-be w x rest
+
+-- the number that is read at a place is what was written there
+pub writes : (w : Width) (b : List ℕ) (at : ℕ) → at + size w ≤ length b → Bytes b → be w (word w b at) ++ drop (at + size w) b ≡ drop at b
+writes w b at l h =
+    let y = drop at b in
+    let m : size w ≤ length y = simp length-drop (omega arith) in
+    let r = be-word w y m (all-drop (λ x. x < 256) at b h) in
+    rw (← word-drop w b at, ← drop-drop (size w) at b) r
