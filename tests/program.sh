@@ -34,7 +34,7 @@ complains() {
 
 expect 0 <<'END'
 The built-in example file M has 160 bytes. Judged whole, and with one byte changed:
-M: accepted: version 6, 1 range cell of 1 Doppler bin, no quality, data at 124, 2 blocks
+M: accepted: version 6, 1 range cell of 1 Doppler bin, no quality, data at 124, 2 blocks: FILL, XTRA
 M with extent 2 = 107 in place of 108: refused 4: extents disagree (header), place 12
 M with section size 19 in place of 20: refused 9: block head cut (section), block 2, place 116
 END
@@ -62,7 +62,7 @@ complains ''
 expect 1 judge nowhere.cs ../damaged ../m.cs <<'END'
 nowhere.cs: cannot be read: No such file or directory (os error 2)
 ../damaged: cannot be read: Is a directory (os error 21)
-../m.cs: accepted: version 6, 1 range cell of 1 Doppler bin, no quality, data at 124, 2 blocks
+../m.cs: accepted: version 6, 1 range cell of 1 Doppler bin, no quality, data at 124, 2 blocks: FILL, XTRA
 END
 complains ''
 

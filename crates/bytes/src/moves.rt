@@ -1,12 +1,15 @@
 //! Moves inside a buffer: bytes written, shifted or set to 0. A move whose bytes do not lie within the buffer is not made:
 //! it answers false, and the buffer is as it was.
+ghost use mathlib.Core.List.{[], _∷_};
 ghost use mathlib.Core.Path.{_≡_};
+ghost use mir.Syntax.{w16};
+ghost use mir.Val.{ofZ};
 ghost use mathlib.Core.Bool.{cond, _&&_};
 ghost use Prim.Native.Nat.{_+_, _-_, _≤_};
 ghost use lib.Dec.{leb};
 ghost use lib.ListN.{length};
 ghost use Rattle.bytes.specs.Moves.{room, written, shifted, zeroed};
-ghost use Rattle.bytes.specs.Words.{be16, be32};
+ghost use Rattle.bytes.specs.Words.{be16, be32, be64};
 
 /// Whether `n` bytes from `at` on lie in the buffer.
 fn has_room(buf: &[u8], at: usize, n: usize) -> bool
@@ -72,6 +75,35 @@ pub fn write_word32(buf: &mut [u8], at: usize, value: u32) -> bool
 {
     let four = value.to_be_bytes();
     write_bytes(buf, at, &four)
+}
+
+/// Writes an unsigned 64-bit number at a place, the highest byte first. Answers false, and writes nothing, where its eight
+/// bytes do not all lie in the buffer.
+pub fn write_word64(buf: &mut [u8], at: usize, value: u64) -> bool
+    ensures answer { λ r. ⌜ r ≡ room (now (buf .entry)) at 8 ⌝ }
+    ensures buffer { λ _. ⌜ now (buf .exit) ≡ cond (room (now (buf .entry)) at 8) (written (now (buf .entry)) at (be64 value)) (now (buf .entry)) ⌝ }
+{
+    let eight = value.to_be_bytes();
+    write_bytes(buf, at, &eight)
+}
+
+/// Writes a signed 16-bit number at a place, the higher byte first. Answers false, and writes nothing, where its two
+/// bytes do not both lie in the buffer.
+pub fn write_int16(buf: &mut [u8], at: usize, value: i16) -> bool
+    ensures answer { λ r. ⌜ r ≡ room (now (buf .entry)) at 2 ⌝ }
+    ensures buffer { λ _. ⌜ now (buf .exit) ≡ cond (room (now (buf .entry)) at 2) (written (now (buf .entry)) at (be16 (ofZ w16 value))) (now (buf .entry)) ⌝ }
+{
+    let signed = value.to_be_bytes();
+    write_bytes(buf, at, &signed)
+}
+
+/// Writes a byte at a place. Answers false, and writes nothing, where the place does not lie in the buffer.
+pub fn write_byte(buf: &mut [u8], at: usize, value: u8) -> bool
+    ensures answer { λ r. ⌜ r ≡ room (now (buf .entry)) at 1 ⌝ }
+    ensures buffer { λ _. ⌜ now (buf .exit) ≡ cond (room (now (buf .entry)) at 1) (written (now (buf .entry)) at (value ∷ [])) (now (buf .entry)) ⌝ }
+{
+    let single = [value];
+    write_bytes(buf, at, &single)
 }
 
 /// Moves the `n` bytes at `at` up by `by` places; the two ranges may overlap. Answers false, and moves none, where

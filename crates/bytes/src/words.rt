@@ -2,7 +2,7 @@
 ghost use mathlib.Core.Path.{_≡_};
 ghost use Prim.Native.Nat.{_+_};
 ghost use lib.ListN.{getD};
-ghost use Rattle.bytes.specs.Words.{word16, word32, int16, int32};
+ghost use Rattle.bytes.specs.Words.{word16, word32, word64, int16, int32};
 
 /// The byte `by` places behind `at`, or 0 behind the end.
 fn byte_after(bytes: &[u8], at: usize, by: usize) -> u8
@@ -13,6 +13,14 @@ fn byte_after(bytes: &[u8], at: usize, by: usize) -> u8
     } else {
         0
     }
+}
+
+/// The byte at a place.
+pub fn byte_at(bytes: &[u8], at: usize) -> u8
+    ensures { λ r. ⌜ r ≡ getD (now (bytes .entry)) at 0 ⌝ }
+{
+    let itself = 0;
+    byte_after(bytes, at, itself)
 }
 
 /// The unsigned 16-bit number at a place.
@@ -31,6 +39,22 @@ pub fn word32_at(bytes: &[u8], at: usize) -> u32
         byte_after(bytes, at, 1),
         byte_after(bytes, at, 2),
         byte_after(bytes, at, 3),
+    ])
+}
+
+/// The unsigned 64-bit number at a place.
+pub fn word64_at(bytes: &[u8], at: usize) -> u64
+    ensures { λ r. ⌜ r ≡ word64 (now (bytes .entry)) at ⌝ }
+{
+    u64::from_be_bytes([
+        byte_at(bytes, at),
+        byte_after(bytes, at, 1),
+        byte_after(bytes, at, 2),
+        byte_after(bytes, at, 3),
+        byte_after(bytes, at, 4),
+        byte_after(bytes, at, 5),
+        byte_after(bytes, at, 6),
+        byte_after(bytes, at, 7),
     ])
 }
 

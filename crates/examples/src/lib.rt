@@ -48,4 +48,6 @@ pub fn example_with_section() -> [u8; 160]
 }
 
 #[cfg(test)]
+mod kind_tests;
+#[cfg(test)]
 mod tests;

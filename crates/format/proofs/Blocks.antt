@@ -8,25 +8,17 @@ use native.Mathlib.Nat.{add-assoc}
 use native.Mathlib.Omega.{arith}
 use lib.Dec.{leb}
 use lib.ListN.{length, take, drop}
-use Rattle.std.proofs.shelf.Elements.{all-append, all-take, all-drop}
+use Rattle.std.proofs.shelf.Elements.{all-take, all-drop}
 use Rattle.std.proofs.shelf.Lists.{length-append, length-take-le, length-drop}
 use Rattle.std.proofs.shelf.Tests.{cases-lt, le-leb, lt-leb}
 use Rattle.std.proofs.shelf.Ways.{tells}
 use Rattle.std.specs.Results.{isOk}
 use Rattle.std.specs.shelf.Lists.{All}
-use Rattle.bytes.proofs.Encoded.{word-lt, be-bytes, reads, goes-on, writes}
+use Rattle.bytes.proofs.Encoded.{word-lt, reads, goes-on, writes}
 use Rattle.bytes.specs.Words.{four, word32, be32, Bytes}
-use Rattle.format.specs.Content.{Block, block-bytes, section, Writable, blocks-at}
+use Rattle.format.specs.Content.{Block, section, Writable, blocks-at}
 use Rattle.format.specs.Section.{block-end, walk}
 use Rattle.format.proofs.Pieces.{piece, take-there, drop-there}
-
-pub section-bytes : (ks : List Block) → All Writable ks → Bytes (section ks)
-section-bytes [] h = tt
-section-bytes (k ∷ ks) h =
-    all-append (λ x. x < 256) (block-bytes k) (section ks)
-    (all-append (λ x. x < 256) (k .key) (be32 (length (k .body)) ++ k .body) (h .0 .key-bytes)
-    (all-append (λ x. x < 256) (be32 (length (k .body))) (k .body) (be-bytes four (length (k .body))) (h .0 .body-bytes)))
-    (section-bytes ks (h .1))
 
 -- the blocks that were written at a place pass, and are read there
 pub read-blocks : (ks : List Block) (b : List ℕ) (end steps at n : ℕ) (rest : List ℕ) → All Writable ks → drop at b ≡ section ks ++ rest

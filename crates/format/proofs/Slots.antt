@@ -7,9 +7,8 @@ use Prim.Native.Nat.{ℕ, _+_, _-_, _^_, _≤_, _<_}
 use native.Mathlib.Omega.{arith}
 use lib.Dec.{ltb}
 use lib.ListN.{length, drop}
-use Rattle.std.proofs.shelf.Elements.{all-append}
 use Rattle.std.proofs.shelf.Tests.{cases-lt, le-ltb, lt-ltb}
-use Rattle.bytes.proofs.Encoded.{word-lt, be-bytes, reads, goes-on, writes}
+use Rattle.bytes.proofs.Encoded.{word-lt, reads, goes-on, writes}
 use Rattle.bytes.specs.Words.{Width, size, limit, word, word16, word32, be, Bytes}
 use Rattle.format.specs.Content.{Slot, own, follows, has, slots, pack, unpack, Fit}
 use Rattle.format.specs.Header.{header-end}
@@ -73,12 +72,6 @@ fits [] b at h = tt
 fits (own w ∷ ss) b at h = (word-lt w b at h, fits ss b (at + size w) h)
 fits (follows w x ∷ ss) b at h = fits ss b (at + size w) h
 
-pub pack-bytes : (ss : List Slot) (fs : List ℕ) → Bytes (pack ss fs)
-pack-bytes [] fs = tt
-pack-bytes (own w ∷ ss) [] = tt
-pack-bytes (own w ∷ ss) (f ∷ fs) = all-append (λ x. x < 256) (be w f) _ (be-bytes w f) (pack-bytes ss fs)
-pack-bytes (follows w x ∷ ss) fs = all-append (λ x. x < 256) (be w x) _ (be-bytes w x) (pack-bytes ss fs)
-
 -- the levels
 end-has : (t : Bool) (ss : List Slot) (at : ℕ) → end (cond t [] ss) at ≡ cond t at (end ss at)
 end-has true ss at = refl
@@ -94,10 +87,6 @@ unpack-has false ss b at = refl
 -- the fields do not hang on what the other words say
 pub unpack-slots : (v d s : ℕ) (b : List ℕ) → unpack (slots v d s) b 0 ≡ unpack (slots v 0 0) b 0
 unpack-slots v d s b = simp unpack-has
-
-fit-has : (t : Bool) (ss rs : List Slot) (fs : List ℕ) → (Fit ss fs → Fit rs fs) → Fit (cond t [] ss) fs → Fit (cond t [] rs) fs
-fit-has true ss rs fs k h = h
-fit-has false ss rs fs k h = k h
 
 -- the words that follow from the rest of the content, at their places
 pub record Words (b : List ℕ) (v d s : ℕ) : Type 0 where

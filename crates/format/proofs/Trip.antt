@@ -8,7 +8,7 @@ use native.Mathlib.Nat.{mul-pos, add-zero}
 use native.Mathlib.Omega.{arith}
 use lib.Dec.{ltb, leb}
 use lib.ListN.{length, take, drop}
-use Rattle.std.proofs.shelf.Elements.{all-append, all-take, all-drop}
+use Rattle.std.proofs.shelf.Elements.{all-take, all-drop}
 use Rattle.std.proofs.shelf.Lists.{length-append, length-take-le, length-drop}
 use Rattle.std.proofs.shelf.Tests.{cases-lt, le-ltb, lt-ltb, lt-leb, cond-true, cond-false, false≢true}
 use Rattle.std.proofs.shelf.Ways.{tells}
@@ -26,10 +26,10 @@ use Rattle.format.specs.Judging.{blocks-of, judged}
 use Rattle.format.specs.Rows.{bin-width, cells-size}
 use Rattle.format.specs.Section.{walk}
 use Rattle.format.specs.Sizes.{quality-in, sizes-in, sizes-of}
-use Rattle.format.proofs.Blocks.{section-bytes, read-blocks, written-blocks}
+use Rattle.format.proofs.Blocks.{read-blocks, written-blocks}
 use Rattle.format.proofs.Pieces.{piece, take-there, drop-there}
 use Rattle.format.proofs.Rules.{Covers, Agrees, Rules, judged-tells}
-use Rattle.format.proofs.Slots.{end, Known, read-back, written-back, fits, pack-bytes, end-slots, unpack-slots, known-words, words-known, within-slots}
+use Rattle.format.proofs.Slots.{end, Known, read-back, written-back, fits, end-slots, unpack-slots, known-words, words-known, within-slots}
 
 -- from version 6 on the header ends at 104
 head-six : (v : ℕ) → 6 ≤ v → header-end v ≡ 104
@@ -223,15 +223,6 @@ blocks-read b v ks rest h none long e =
 same : (c d : Content) → c .version ≡ d .version → c .fields ≡ d .fields → c .blocks ≡ d .blocks → c .gap ≡ d .gap → c .cells ≡ d .cells
     → c .tail ≡ d .tail → c ≡ d
 same c d p q r s t u = λ i. record { version = p i; fields = q i; blocks = r i; gap = s i; cells = t i; tail = u i }
-
-sum-bytes : (xs ys : List ℕ) → Bytes xs → Bytes ys → Bytes (xs ++ ys)
-sum-bytes xs ys p q = all-append (λ x. x < 256) xs ys p q
-
-write-bytes : (c : Content) → Sound c → Bytes (write c)
-write-bytes c s =
-    sum-bytes (pack (header-slots c) (c .fields)) _ (pack-bytes (header-slots c) (c .fields))
-    (sum-bytes (section (c .blocks)) _ (section-bytes (c .blocks) (s .blocks-fit))
-    (sum-bytes (c .gap) _ (s .gap-bytes) (sum-bytes (c .cells) (c .tail) (s .cells-bytes) (s .tail-bytes))))
 
 -- there is at least one byte of cells
 some-cells : (s : Sizes) → 1 ≤ s .ranges → 1 ≤ s .bins → 1 ≤ cells-size s

@@ -9,7 +9,7 @@ use Rattle.faults.specs.Faults.{fault-text}
 use Rattle.format.specs.declared.judging.Layout.{Layout}
 use Rattle.format.specs.Shown.{layout-text}
 
--- the file's name, and its layout or its fault
-abbrev pub verdict-text : List ℕ → Result Layout Fault → List ℕ
-verdict-text name (Ok layout) = name ++ (codes ": accepted: " ++ layout-text layout)
-verdict-text name (Err fault) = name ++ (codes ": " ++ fault-text fault)
+-- the file's name, and its layout with the keys of its blocks, or its fault
+abbrev pub verdict-text : List ℕ → Result Layout Fault → List ℕ → List ℕ
+verdict-text name (Ok layout) keys = name ++ (codes ": accepted: " ++ (layout-text layout ++ keys))
+verdict-text name (Err fault) keys = name ++ (codes ": " ++ fault-text fault)

@@ -9,7 +9,7 @@ usage:
   kutsvame help            print this text
 
 A line says what a sound file holds, or which rule the file breaks and where:
-  a.cs: accepted: version 6, 31 range cells of 512 Doppler bins, quality, data at 124, 2 blocks
+  a.cs: accepted: version 6, 31 range cells of 512 Doppler bins, quality, data at 124, 2 blocks: FILL, XTRA
   b.cs: refused 4: extents disagree (header), place 12
 
 The status is 0 if every file was accepted, and 1 if one was refused or could not be read, or if the words

@@ -3,6 +3,7 @@ ghost use mathlib.Core.Path.{_≡_};
 ghost use Rattle.std.specs.Of.String.{string-bytes};
 ghost use Rattle.std.specs.Vec.{made};
 ghost use Rattle.kutsvame.specs.Lines.{verdict-text};
+use crate::keys::key_list;
 use faults::Fault;
 use faults::FaultDisplay;
 use format::Layout;
@@ -13,28 +14,37 @@ use std::alloc::Global;
 use std::fs;
 use std::io;
 
-/// The line for a file of that name: its layout, or the rule that it breaks.
-pub fn verdict_line(
+/// The line for a file of that name: its layout and the keys of its blocks, or the rule that it breaks.
+fn verdict_line(
     heap: Global,
     name: &str,
     verdict: Result<Layout, Fault>,
+    keys: &str,
 ) -> Result<String, AllocError>
-    ensures { λ r. ⌜ made r (λ s. string-bytes s ≡ verdict-text (now (name .entry)) verdict) ⌝ }
+    ensures { λ r. ⌜ made r (λ s. string-bytes s ≡ verdict-text (now (name .entry)) verdict (now (keys .entry))) ⌝ }
 {
     match verdict {
-        Ok(layout) => format!(heap, "{name}: accepted: {layout}"),
+        Ok(layout) => format!(heap, "{name}: accepted: {layout}{keys}"),
         Err(fault) => format!(heap, "{name}: {fault}"),
     }
+}
+
+/// Judges the bytes of a file and prints the line for it; false if it is refused.
+pub fn judge_bytes(rt: &LibcRuntime, name: &str, bytes: &[u8]) -> io::Result<bool> {
+    let heap = rt.alloc();
+    let verdict = judge(bytes);
+    let keys = match verdict {
+        Ok(layout) => key_list(heap, bytes, layout)?,
+        Err(_) => String::new(heap),
+    };
+    rt.println(verdict_line(heap, name, verdict, keys.as_str())?)?;
+    Ok(verdict.is_ok())
 }
 
 /// Prints the line for a file; false if it is refused or cannot be read.
 fn judge_file(rt: &LibcRuntime, name: &str) -> io::Result<bool> {
     match fs::read(rt, name) {
-        Ok(bytes) => {
-            let verdict = judge(bytes.as_slice());
-            rt.println(verdict_line(rt.alloc(), name, verdict)?)?;
-            Ok(verdict.is_ok())
-        }
+        Ok(bytes) => judge_bytes(rt, name, bytes.as_slice()),
         Err(error) => {
             println!(rt, "{name}: cannot be read: {error}")?;
             Ok(false)

@@ -2,6 +2,7 @@
 mod example;
 mod help;
 mod judge;
+mod keys;
 mod words;
 
 use example::judge_example;

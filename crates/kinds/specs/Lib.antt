@@ -1,0 +1,4 @@
+pub mod Kind
+pub mod Packed
+pub mod Ended
+pub mod Look

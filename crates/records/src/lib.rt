@@ -1,0 +1,37 @@
+//! The kinds of block that are packed records.
+mod fill;
+mod fwin;
+mod glrm;
+mod loca;
+mod rcvi;
+mod supi;
+mod time;
+
+pub use fill::Fill;
+pub use fill::FillDebug;
+pub use fill::FillIsKind;
+pub use fill::FillPartialEq;
+pub use fwin::Fwin;
+pub use fwin::FwinDebug;
+pub use fwin::FwinIsKind;
+pub use fwin::FwinPartialEq;
+pub use glrm::Glrm;
+pub use glrm::GlrmDebug;
+pub use glrm::GlrmIsKind;
+pub use glrm::GlrmPartialEq;
+pub use loca::Loca;
+pub use loca::LocaDebug;
+pub use loca::LocaIsKind;
+pub use loca::LocaPartialEq;
+pub use rcvi::Rcvi;
+pub use rcvi::RcviDebug;
+pub use rcvi::RcviIsKind;
+pub use rcvi::RcviPartialEq;
+pub use supi::Supi;
+pub use supi::SupiDebug;
+pub use supi::SupiIsKind;
+pub use supi::SupiPartialEq;
+pub use time::Time;
+pub use time::TimeDebug;
+pub use time::TimeIsKind;
+pub use time::TimePartialEq;

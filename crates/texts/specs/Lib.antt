@@ -1,0 +1,4 @@
+pub mod City
+pub mod Sitd
+pub mod Tool
+pub mod Zone
