@@ -53,7 +53,7 @@ pub trait Kind {
 /// Whether a key is the kind's own, byte by byte. Its contract has the law of all kinds: what is written, with any bytes
 /// behind it, is read back as written.
 pub fn is_kind<K: Kind>(key: [u8; 4]) -> bool
-    ensures same { result ≡ bytes_eq key kind.key }
+    ensures same { result ≡ bytes_eq key K.kind.key }
     ensures law { EveryKindReturns }
 {
     key == K::key()

@@ -38,7 +38,7 @@ fn key_of(bytes: &[u8], at: usize) -> [u8; 4]
 /// Reads the block that begins at a place of a file, and has that number, as a kind: its record, its text as a place in the
 /// file, and the bytes used. Refuses 34 where no whole block lies there, 12 for another key, then as the kind does.
 pub fn look_at<K: Kind>(bytes: &[u8], at: usize, number: usize) -> Result<Reading<K::Record>, Fault>
-    ensures { Looks numbers kind number at bytes.now result }
+    ensures { Looks K.numbers K.kind number at bytes.now result }
 {
     let size = check_block(bytes, at)?;
     if !is_kind::<K>(key_of(bytes, at)) {

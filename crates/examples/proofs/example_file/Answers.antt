@@ -3,4 +3,4 @@ use Rattle.examples.proofs.Read as read
 use Rattle.examples.proofs.example_file.Goals as goal
 
 pub returns : goal.returns
-returns c = record { bytes = c.bytes-of-m.ensures; worked = computed.worked; readings = read.readings }
+returns c = record { bytes = c.bytes_of_m.ensures; worked = computed.worked; readings = read.readings }

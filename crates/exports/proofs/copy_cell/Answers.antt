@@ -17,12 +17,12 @@ loop-row-init c =
 pub loop-row-preserved : goal.loop-row-preserved
 loop-row-preserved c =
     let f = number_at c.args.judged.now.bytes.now c.args.layout in
-    let turn = c.copy-row-end.ensures in
+    let turn = c.copy_row-end.ensures in
     let inv = c.loop-row.invariant in (
       turn.place,
       omega (arith, turn.after, inv.1),
       turn.inside,
-      written_more f c.args.at c.loop-row.end c.copy-row-end.result c.args.list.now c.loop-row.list c.copy-row-end.new.list
+      written_more f c.args.at c.loop-row.end c.copy_row-end.result c.args.list.now c.loop-row.list c.copy_row-end.new.list
           inv.3 turn.list inv.1 turn.after (omega (arith, turn.inside, c.requires.room)),
     )
 

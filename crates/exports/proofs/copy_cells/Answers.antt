@@ -5,8 +5,8 @@ use Rattle.exports.proofs.Rows.{cells_end, cells_small, copied_answer, copied_li
 use Rattle.exports.proofs.Copied.{written_more}
 use Rattle.exports.proofs.copy_cells.Goals as goal
 
-pub overflow-mul-count-2 : goal.overflow-mul-count-2
-overflow-mul-count-2 c =
+pub overflow_mul-count-2 : goal.overflow_mul-count-2
+overflow_mul-count-2 c =
     let s = c.args.layout.sizes in
     let size : s.ranges * s.bins * c.bin_width.result ≡ cells_size s = ap (λ (w : ℕ). s.ranges * s.bins * w) c.bin_width.ensures in
     let small = cells_small c.args.judged.now.bytes.now c.args.layout c.requires in
@@ -15,14 +15,14 @@ overflow-mul-count-2 c =
 pub loop-cell-preserved : goal.loop-cell-preserved
 loop-cell-preserved c =
     let f = number_at c.args.judged.now.bytes.now c.args.layout in
-    let turn = c.copy-cell-end.ensures in
+    let turn = c.copy_cell-end.ensures in
     let inv = c.loop-cell.invariant in
     let l = c.args.layout in
     let s = l.sizes in
     let size : s.ranges * s.bins * c.bin_width.result / 4 ≡ count_of l = ap (λ (w : ℕ). s.ranges * s.bins * w / 4) c.bin_width.ensures in (
       turn.place,
       turn.inside,
-      written_more f 0 c.loop-cell.end c.copy-cell-end.result c.args.list.now c.loop-cell.list c.copy-cell-end.new.list
+      written_more f 0 c.loop-cell.end c.copy_cell-end.result c.args.list.now c.loop-cell.list c.copy_cell-end.new.list
           inv.2 turn.list (omega arith) turn.after (omega (arith, turn.inside)),
     )
 

@@ -8,5 +8,5 @@ use Rattle.kinds.proofs.ended.measure_closed.Goals as goal
 pub returns : goal.returns
 returns c =
     let text = c.args.text.now in
-    let all : length text ≤ before_zero text = omega (arith, c.first-zero-plain.ensures) in
+    let all : length text ≤ before_zero text = omega (arith, c.first_zero-plain.ensures) in
     ap Ok (sym (length-append text (0 ∷ []))) ∙ sym (ap measured (cond-false _ _ _ (le-ltb (before_zero text) (length text) all)))

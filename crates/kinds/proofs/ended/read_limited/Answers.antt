@@ -6,7 +6,7 @@ use Rattle.kinds.proofs.ended.read_limited.Goals as goal
 pub returns-else-most-bytes : goal.returns-else-most-bytes
 returns-else-most-bytes c =
     record {
-      exact = c.ended-length-else-most-bytes.ensures.exact
+      exact = c.ended_length-else-most-bytes.ensures.exact
           ∙ sym (ap ended_length (take_all (c.args.most + 1) c.args.bytes.now (omega arith)));
-      within = c.ended-length-else-most-bytes.ensures.within;
+      within = c.ended_length-else-most-bytes.ensures.within;
     }

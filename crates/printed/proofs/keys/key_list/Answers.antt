@@ -10,18 +10,18 @@ pub loop-entry-preserved : goal.loop-entry-preserved
 loop-entry-preserved c =
     let rest = c.in-Some.rest.now in
     let i = c.loop-entry.entry-index in
-    let before = string_bytes c.in-ok-list.list in
-    let piece : c.as-str.result.now ≡ more_key (get_or rest i no_entry) = search rules in
-    pushed c.as-str.result.now c.loop-entry.invariant c.in-ok-push-str.was c.push-str.ensures.bytes
+    let before = string_bytes c.in_ok-list.list in
+    let piece : c.as_str.result.now ≡ more_key (get_or rest i no_entry) = search rules in
+    pushed c.as_str.result.now c.loop-entry.invariant c.in_ok-push_str.was c.push_str.ensures.bytes
     ∙ (ap (λ (l : List ℕ). (before ++ flat_map more_key (take i rest)) ++ l) piece
     ∙ join_more more_key before rest i no_entry c.loop-entry-test.true)
 
 pub returns : goal.returns
 returns c =
     let rest = c.in-Some.rest.now in
-    let before = string_bytes c.in-ok-list.list in
+    let before = string_bytes c.in_ok-list.list in
     let whole : c.args.table.now ≡ c.in-Some.first.now ∷ rest = search rules in
     c.loop-entry.invariant
     ∙ (join_all more_key before rest c.loop-entry.entry-index (search rules)
-    ∙ (ap (λ (l : List ℕ). l ++ flat_map more_key rest) c.in-ok-list.ensures.ok
+    ∙ (ap (λ (l : List ℕ). l ++ flat_map more_key rest) c.in_ok-list.ensures.ok
     ∙ sym (ap keys_text whole)))

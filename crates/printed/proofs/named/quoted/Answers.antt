@@ -10,13 +10,13 @@ pub loop-byte-preserved : goal.loop-byte-preserved
 loop-byte-preserved c =
     let text = c.args.text.now in
     let i = c.loop-byte.byte-index in
-    pushed (encode c.letter.result) c.loop-byte.invariant c.in-ok-push.was c.push.ensures.bytes
+    pushed (encode c.letter.result) c.loop-byte.invariant c.in_ok-push.was c.push.ensures.bytes
     ∙ (ap (λ (x : ℕ). (codes "\"" ++ flat_map letter_text (take i text)) ++ encode x) c.letter.ensures
     ∙ join_more letter_text (codes "\"") text i 0 c.loop-byte-test.true)
 
 pub returns : goal.returns
 returns c =
     let text = c.args.text.now in
-    pushed (encode 34) c.loop-byte.invariant c.in-ok-push-2.was c.push-2.ensures.bytes
+    pushed (encode 34) c.loop-byte.invariant c.in_ok-push-2.was c.push-2.ensures.bytes
     ∙ (ap (λ (l : List ℕ). l ++ encode 34) (join_all letter_text (codes "\"") text c.loop-byte.byte-index (search rules))
     ∙ ap (λ (l : List ℕ). (codes "\"" ++ flat_map letter_text text) ++ l) (c.push-2.ensures.ascii (lit< tt)))

@@ -7,7 +7,7 @@ pub returns-in-Ok-numbers : goal.returns-in-Ok-numbers
 returns-in-Ok-numbers c =
     let answered = sym c.row.ensures.answer ∙ c.in-Ok.is in
     let fits = sym c.numbers.ensures.answer ∙ c.in-Ok-numbers.is in
-    let kept = take_at c.numbers.new.list _ c.in-ok-list.list.len (search rules) in
-    row_read c.args.file.now.bytes.now c.args.asked.level c.args.asked.cell c.args.asked.row _ c.as-mut-slice.result.now
+    let kept = take_at c.numbers.new.list _ c.in_ok-list.list.len (search rules) in
+    row_read c.args.file.now.bytes.now c.args.asked.level c.args.asked.cell c.args.asked.row _ c.as_mut_slice.result.now
     c.numbers.new.list answered (search rules) (search rules) fits c.numbers.ensures.list
     ∙ ap (λ (l : List ℕ). Ok l) (sym kept)

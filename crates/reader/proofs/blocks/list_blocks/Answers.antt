@@ -9,10 +9,10 @@ pub loop-i-preserved : goal.loop-i-preserved
 loop-i-preserved c =
     let b = c.args.bytes.now in
     let here : c.loop-i.at ≡ block_place b c.loop-i.i = c.loop-i.invariant.0 in
-    let head : c.read-entry-entry.result ≡ entry_at b c.loop-i.at = c.read-entry-entry.ensures in
+    let head : c.read_entry-entry.result ≡ entry_at b c.loop-i.at = c.read_entry-entry.ensures in
     let entry : ℕ → Entry = λ i. entry_at b (block_place b i) in (
       ap (λ (e : Entry). c.loop-i.at + (8 + e.size)) head ∙ next_place b c.loop-i.at c.loop-i.i here,
-      fill_more entry c.args.table.now c.loop-i.table c.loop-i.i c.read-entry-entry.result (omega arith) c.loop-i.invariant.1 (head ∙ ap (entry_at b) here),
+      fill_more entry c.args.table.now c.loop-i.table c.loop-i.i c.read_entry-entry.result (omega arith) c.loop-i.invariant.1 (head ∙ ap (entry_at b) here),
     )
 
 pub returns : goal.returns

@@ -6,8 +6,8 @@ use Rattle.reader.proofs.rows.copy_numbers.Goals as goal
 
 pub loop-i-preserved : goal.loop-i-preserved
 loop-i-preserved c =
-    fill_more (λ j. word32 c.args.bytes.now (4 * j)) c.args.list.now c.loop-i.list c.loop-i.i c.from-be-bytes.result (omega arith)
-    c.loop-i.invariant c.from-be-bytes.ensures
+    fill_more (λ j. word32 c.args.bytes.now (4 * j)) c.args.list.now c.loop-i.list c.loop-i.i c.from_be_bytes.result (omega arith)
+    c.loop-i.invariant c.from_be_bytes.ensures
 
 pub returns : goal.returns
 returns c =

@@ -8,9 +8,9 @@ pub returns : goal.returns
 returns c =
     let xs = fill_numbers c.args.value in
     let fits : fit fill_parts xs ≡ true = search rules in
-    let all : c.write-byte-4.new.buf ≡ filled fill_parts xs c.args.out.now 0 = search rules in
+    let all : c.write_byte-4.new.buf ≡ filled fill_parts xs c.args.out.now 0 = search rules in
     record {
       answer = search rules;
       fits = fits;
-      buffer = record_filled fill_parts xs c.args.out.now c.write-byte-4.new.buf 4 fits refl (omega arith) all;
+      buffer = record_filled fill_parts xs c.args.out.now c.write_byte-4.new.buf 4 fits refl (omega arith) all;
     }

@@ -8,9 +8,9 @@ pub returns : goal.returns
 returns c =
     let xs = fwin_numbers c.args.value in
     let fits : fit fwin_parts xs ≡ true = search rules in
-    let all : c.write-word64-2.new.buf ≡ filled fwin_parts xs c.args.out.now 0 = search rules in
+    let all : c.write_word64-2.new.buf ≡ filled fwin_parts xs c.args.out.now 0 = search rules in
     record {
       answer = search rules;
       fits = fits;
-      buffer = record_filled fwin_parts xs c.args.out.now c.write-word64-2.new.buf 18 fits refl (omega arith) all;
+      buffer = record_filled fwin_parts xs c.args.out.now c.write_word64-2.new.buf 18 fits refl (omega arith) all;
     }

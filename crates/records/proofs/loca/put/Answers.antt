@@ -8,9 +8,9 @@ pub returns : goal.returns
 returns c =
     let xs = loca_numbers c.args.value in
     let fits : fit loca_parts xs ≡ true = search rules in
-    let all : c.write-word64-3.new.buf ≡ filled loca_parts xs c.args.out.now 0 = search rules in
+    let all : c.write_word64-3.new.buf ≡ filled loca_parts xs c.args.out.now 0 = search rules in
     record {
       answer = search rules;
       fits = fits;
-      buffer = record_filled loca_parts xs c.args.out.now c.write-word64-3.new.buf 24 fits refl (omega arith) all;
+      buffer = record_filled loca_parts xs c.args.out.now c.write_word64-3.new.buf 24 fits refl (omega arith) all;
     }

@@ -8,9 +8,9 @@ pub returns : goal.returns
 returns c =
     let xs = supi_numbers c.args.value in
     let fits : fit supi_parts xs ≡ true = search rules in
-    let all : c.write-int16-2.new.buf ≡ filled supi_parts xs c.args.out.now 0 = search rules in
+    let all : c.write_int16-2.new.buf ≡ filled supi_parts xs c.args.out.now 0 = search rules in
     record {
       answer = search rules;
       fits = fits;
-      buffer = record_filled supi_parts xs c.args.out.now c.write-int16-2.new.buf 28 fits refl (omega arith) all;
+      buffer = record_filled supi_parts xs c.args.out.now c.write_int16-2.new.buf 28 fits refl (omega arith) all;
     }

@@ -7,7 +7,7 @@ use Rattle.records.proofs.fwin.FwinKind.write.Goals as goal
 
 pub returns : goal.returns
 returns c =
-    let t = textless_is 18 c.in-ok-size.size c.args.text.now c.in-ok-size.ensures in
+    let t = textless_is 18 c.in_ok-size.size c.args.text.now c.in_ok-size.ensures in
     let p = record_wrote fwin_parts (fwin_numbers c.args.value) c.args.text.now c.args.out.now c.put.new.out 18
     c.put.ensures.fits t.1 refl (sym c.if-not-put.ensures.answer) c.put.ensures.buffer in
     record { answer = ap Ok t.0 ∙ p.0; buffer = p.1 }

@@ -8,13 +8,13 @@ use Rattle.records.proofs.glrm.GlrmKind.write.Goals as goal
 
 pub returns : goal.returns
 returns c =
-    let t = textless_is 39 c.in-ok-size.size c.args.text.now c.in-ok-size.ensures in
+    let t = textless_is 39 c.in_ok-size.size c.args.text.now c.in_ok-size.ensures in
     let p = record_wrote glrm_parts (glrm_numbers c.args.value) c.args.text.now c.args.out.now c.put.new.out 39
     c.put.ensures.fits t.1 refl (sym c.if-not-put.ensures.answer) c.put.ensures.buffer in
     record { answer = ap Ok t.0 ∙ p.0; buffer = p.1 }
 
-pub returns-in-err-size : goal.returns-in-err-size
-returns-in-err-size c =
-    let p = err_from_is_err_and c.from-residual.result c.from-residual.ensures.1 in
-    let d = record_declined glrm_parts (glrm_numbers c.args.value) c.args.text.now c.args.out.now 39 c.in-err-size.field-0.0 c.in-err-size.ensures in
+pub returns-in_err-size : goal.returns-in_err-size
+returns-in_err-size c =
+    let p = err_from_is_err_and c.from_residual.result c.from_residual.ensures.1 in
+    let d = record_declined glrm_parts (glrm_numbers c.args.value) c.args.text.now c.args.out.now 39 c.in_err-size.field-0.0 c.in_err-size.ensures in
     record { answer = p.1 ∙ ap Err p.2 ∙ d.0; buffer = d.1 }

@@ -8,4 +8,4 @@ pub returns : goal.returns
 returns c =
     let ns = rcvi_numbers c.args.-value in
     let fits : fit rcvi_parts ns ≡ true = search rules in
-    c.measure-firmware.ensures ∙ rcvi_measured ns c.args.text.now fits
+    c.measure_firmware.ensures ∙ rcvi_measured ns c.args.text.now fits

@@ -9,4 +9,4 @@ pub returns : goal.returns
 returns c =
     let xs = time_numbers c.args.-value in
     let fits : fit time_parts xs ≡ true = rw (lt-ltb c.args.-value.mark 256 (search rules), lt-ltb c.args.-value.year 65536 (search rules), lt-ltb c.args.-value.month 256 (search rules), lt-ltb c.args.-value.day 256 (search rules), lt-ltb c.args.-value.hour 256 (search rules), lt-ltb c.args.-value.minute 256 (search rules), lt-ltb c.args.-value.seconds 18446744073709551616 (search rules), lt-ltb c.args.-value.coverage 18446744073709551616 (search rules), lt-ltb c.args.-value.utc 18446744073709551616 (search rules)) in
-    c.measure-record.ensures ∙ record_measured time_parts xs c.args.text.now 31 fits refl
+    c.measure_record.ensures ∙ record_measured time_parts xs c.args.text.now 31 fits refl
