@@ -18,7 +18,7 @@ impl<'a> JudgedFile<'a> {
 
     /// The bytes of a block's text, the block being read as a kind, as a part of the file's; refuses as `look` does.
     pub fn text_part<K: Kind>(&self, number: usize) -> Result<&'a [u8], Fault>
-        ensures { MatchResult result (λ p. text_part kind self.now.bytes.now number ≡ Ok p.now) (λ f. text_part kind self.now.bytes.now number ≡ Err f) }
+        ensures { MatchResult result (λ p. text_part K.kind self.now.bytes.now number ≡ Ok p.now) (λ f. text_part K.kind self.now.bytes.now number ≡ Err f) }
     {
         let reading = self.look::<K>(number)?;
         let bytes = self.bytes;

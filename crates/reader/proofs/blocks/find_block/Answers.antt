@@ -6,4 +6,4 @@ use Rattle.reader.proofs.blocks.find_block.Goals as goal
 pub loop-i-preserved : goal.loop-i-preserved
 loop-i-preserved c =
     ap (λ (e : Entry). c.loop-i.at + (8 + e.size)) c.read_entry-entry.ensures
-    ∙ next_place c.args.bytes.now c.loop-i.at c.loop-i.-i c.loop-i.invariant
+    ∙ next_place c.args.bytes.now c.loop-i.at c.loop-i._i c.loop-i.invariant

@@ -4,7 +4,7 @@ use Rattle.reader.proofs.Known.{kept_of}
 use Rattle.reader.proofs.judged.JudgedFile.of.Goals as goal
 
 pub invariant_of-result : goal.invariant_of-result
-invariant_of-result c = (kept_of c.args.bytes.now c.judge.result c.ok.result c.judge.ensures.exact c.ok.ensures.value, tt)
+invariant_of-result c = record { known = kept_of c.args.bytes.now c.judge.result c.ok.result c.judge.ensures.exact c.ok.ensures.value }
 
 pub returns : goal.returns
 returns c = record { bytes = refl; agree = agreed c.args.bytes.now }

@@ -6,6 +6,6 @@ use Rattle.records.proofs.rcvi.RcviKind.measure.Goals as goal
 
 pub returns : goal.returns
 returns c =
-    let ns = rcvi_numbers c.args.-value in
+    let ns = rcvi_numbers c.args._value in
     let fits : fit rcvi_parts ns ≡ true = search rules in
     c.measure_firmware.ensures ∙ rcvi_measured ns c.args.text.now fits

@@ -7,6 +7,6 @@ use Rattle.records.proofs.time.TimeKind.measure.Goals as goal
 
 pub returns : goal.returns
 returns c =
-    let xs = time_numbers c.args.-value in
-    let fits : fit time_parts xs ≡ true = rw (lt-ltb c.args.-value.mark 256 (search rules), lt-ltb c.args.-value.year 65536 (search rules), lt-ltb c.args.-value.month 256 (search rules), lt-ltb c.args.-value.day 256 (search rules), lt-ltb c.args.-value.hour 256 (search rules), lt-ltb c.args.-value.minute 256 (search rules), lt-ltb c.args.-value.seconds 18446744073709551616 (search rules), lt-ltb c.args.-value.coverage 18446744073709551616 (search rules), lt-ltb c.args.-value.utc 18446744073709551616 (search rules)) in
+    let xs = time_numbers c.args._value in
+    let fits : fit time_parts xs ≡ true = rw (lt-ltb c.args._value.mark 256 (search rules), lt-ltb c.args._value.year 65536 (search rules), lt-ltb c.args._value.month 256 (search rules), lt-ltb c.args._value.day 256 (search rules), lt-ltb c.args._value.hour 256 (search rules), lt-ltb c.args._value.minute 256 (search rules), lt-ltb c.args._value.seconds 18446744073709551616 (search rules), lt-ltb c.args._value.coverage 18446744073709551616 (search rules), lt-ltb c.args._value.utc 18446744073709551616 (search rules)) in
     c.measure_record.ensures ∙ record_measured time_parts xs c.args.text.now 31 fits refl
