@@ -5,6 +5,6 @@ use Rattle.printed.proofs.table.block_table.Goals as goal
 
 pub returns : goal.returns
 returns c =
-    let old = c.in_ok-table.ensures.items-if-clones-equal (λ y e. search rules) in
+    let old = c.in_ok-table.ensures.items_if_clones_equal (λ y e. search rules) in
     let kept = take_at c.table.new.table _ c.in_ok-table.table.len (search rules) in
     kept ∙ (c.table.ensures.table ∙ ap (table_list c.args.file.now.bytes.now) (c.as_mut_slice.ensures.value ∙ old))
