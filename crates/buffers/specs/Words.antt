@@ -1,6 +1,6 @@
 -- Big-endian words. A byte behind the end counts as 0, so that a word is defined at every place.
 use Rattle.std.specs.Prelude.{ℕ, ◌+◌, ◌*◌, ◌/◌, ◌%◌, ◌^◌, ◌<◌, List, [], ◌∷◌, ◌++◌, ℤ, slice_index}
-use Rattle.std.specs.List.{AllByRecursion as All}
+use Rattle.std.specs.List.{AllByRecursion}
 use Rattle.std.specs.Int.{w16, w32}
 use Rattle.std.proofs.Common.{to_z}
 
@@ -70,4 +70,4 @@ be eight x = be64 x
 
 -- every number of the list is a byte
 abbrev pub Bytes : List ℕ → Type 0
-Bytes b = All (λ x. x < 256) b
+Bytes b = AllByRecursion (λ x. x < 256) b

@@ -1,4 +1,6 @@
 //! Big-endian words in a slice of bytes, and moves inside a buffer.
+#![tactic(auto)]
+
 mod moves;
 mod words;
 

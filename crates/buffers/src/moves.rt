@@ -1,6 +1,6 @@
 //! Moves inside a buffer: bytes written, shifted or set to 0. A move whose bytes do not lie within the buffer is not made:
 //! it answers false, and the buffer is as it was.
-ghost use Rattle.std.specs.Prelude.{◌≡◌, ◌+◌, ◌-◌, ◌≤◌, ◌&&◌, leb, [], ◌∷◌, length, if◌then◌else◌, nat_le};
+ghost use Rattle.std.specs.Prelude.{◌≡◌, ◌+◌, ◌-◌, ◌≤◌, ◌&&◌, [], ◌∷◌, length, if◌then◌else◌, nat_le};
 ghost use Rattle.std.specs.Int.{w16};
 ghost use Rattle.std.proofs.Common.{of_z};
 ghost use Rattle.buffers.specs.Moves.{room, written, shifted, zeroed};
@@ -118,7 +118,7 @@ pub fn shift_up(buf: &mut [u8], at: usize, n: usize, by: usize) -> bool
 /// they do not lie in the buffer or `by` is more than `at`.
 pub fn shift_down(buf: &mut [u8], at: usize, n: usize, by: usize) -> bool
     ensures answer { result ≡ (nat_le by at && room buf.old at n) }
-    ensures buffer { buf.new ≡ (if leb by at && room buf.old at n then shifted buf.old at n (at - by) else buf.old) }
+    ensures buffer { buf.new ≡ (if nat_le by at && room buf.old at n then shifted buf.old at n (at - by) else buf.old) }
 {
     if by > at || !has_room(buf, at, n) {
         return false;

@@ -94,7 +94,7 @@ fn rows_of_an_early_file(rt: HostRuntime) -> Result<(), Fail> {
     assert_eq!(rt; file.row(5, 1, 4)?, (92, 8));
     assert_eq!(rt; file.row(6, 1, 7)?, (116, 4));
     assert_eq!(rt; file.row(6, 2, 6)?, (148, 8));
-    assert_eq!(rt; file.row_part(4, 2, 7)?, &[156, 157, 158, 159]);
+    assert_eq!(rt; file.row_part(4, 2, 7)?, [156u8, 157, 158, 159].as_slice());
     assert_eq!(rt; refused(file.row(0, 1, 1)), (19, 5, 0, 0));
     assert_eq!(rt; refused(file.row(3, 9, 1)), (37, 5, 0, 0));
     assert_eq!(rt; refused(file.row(4, 0, 1)), (16, 5, 0, 0));
@@ -164,13 +164,13 @@ fn blocks_looked_at(rt: HostRuntime) -> Result<(), Fail> {
     let fill = file.look::<Fill>(1)?;
     assert_eq!(rt; (fill.text, fill.length, fill.used), (112, 0, 4));
     assert_eq!(rt; fill.record.doppler_multiple, 4);
-    assert_eq!(rt; file.text_part::<Fill>(1)?, &[]);
+    assert_eq!(rt; file.text_part::<Fill>(1)?, b"".as_slice());
     assert_eq!(rt; refused(file.look::<Loca>(1)), (12, 4, 1, 104));
     assert_eq!(rt; refused(file.look::<Fill>(2)), (12, 4, 2, 116));
     assert_eq!(rt; refused(file.look::<Fill>(3)), (34, 5, 0, 0));
     bytes[104..116].copy_from_slice(b"ZONE\0\0\0\x04GMT\0");
     let zone = JudgedFile::of(&bytes);
-    assert_eq!(rt; zone.text_part::<Zone>(1)?, b"GMT");
+    assert_eq!(rt; zone.text_part::<Zone>(1)?, b"GMT".as_slice());
     bytes[115] = 90;
     let unended = JudgedFile::of(&bytes);
     assert_eq!(rt; refused(unended.look::<Zone>(1)), (14, 4, 1, 112));

@@ -1,4 +1,6 @@
 //! What programs in C or Rust link: the library's questions under C names.
+#![tactic(auto)]
+
 ghost use Rattle.std.specs.Prelude.{◌≡◌, ◌+◌, ◌*◌, ◌≤◌, Bool, length, Ok};
 ghost use Rattle.exports.specs.Rows.{number_at, count_of, copy_answer, copy_list, bytes_before, copied};
 ghost use Rattle.format.specs.Rows.{row_widths};

@@ -1,18 +1,18 @@
 -- The section of blocks: blocks that were written pass and are read, and blocks that pass were written.
-use Rattle.std.proofs.Common.{◌≡◌, ℕ, zero, suc, ◌+◌, ◌-◌, ◌^◌, ◌<◌, ◌≤◌, true, leb, List, [], ◌∷◌, ◌++◌, length, take, drop, is_ok, sym, refl, ap, ◌∙◌, ⊎_elim, append_assoc, add_assoc, arith}
+use Rattle.std.proofs.Common.{◌≡◌, ℕ, zero, suc, ◌+◌, ◌-◌, ◌<◌, ◌≤◌, true, List, [], ◌∷◌, ◌++◌, length, take, drop, is_ok, refl, ◌∙◌, ⊎_elim, append_assoc, add_assoc, arith}
 use Rattle.std.proofs.ByRecursion.{All-take, All-drop}
 use Rattle.std.proofs.lemmas.List.{length-append, length-take-le, length-drop}
 use Rattle.std.proofs.lemmas.Bool.{cases_lt, le-leb, lt-leb}
 use Rattle.std.proofs.lemmas.Bool.Decides.{nat_tests}
-use Rattle.std.specs.List.{AllByRecursion as All}
+use Rattle.std.specs.List.{AllByRecursion}
 use Rattle.buffers.proofs.Encoded.{word_lt, reads, goes_on, writes}
 use Rattle.buffers.specs.Words.{four, word32, be32, Bytes}
 use Rattle.format.specs.Content.{Block, section, Writable, blocks_at}
-use Rattle.format.specs.Section.{block_end, walk}
+use Rattle.format.specs.Section.{walk}
 use Rattle.format.proofs.Pieces.{piece, take_there, drop_there}
 
 -- the blocks that were written at a place pass, and are read there
-pub read_blocks : (ks : List Block) (b : List ℕ) (end steps at n : ℕ) (rest : List ℕ) → All Writable ks → drop at b ≡ section ks ++ rest
+pub read_blocks : (ks : List Block) (b : List ℕ) (end steps at n : ℕ) (rest : List ℕ) → AllByRecursion Writable ks → drop at b ≡ section ks ++ rest
     → end ≡ at + length (section ks) → end ≤ at + steps
     → (is_ok (walk b end steps at n) ≡ true) × (blocks_at b end steps at ≡ ks) × (drop end b ≡ rest)
 read_blocks [] b end zero at n rest h e l m = (refl, refl, let q : end ≡ at = omega arith in rw q e)
@@ -47,7 +47,7 @@ read_blocks (k ∷ ks) b end (suc steps) at n rest h e l m =
 
 -- blocks that pass are the writing of what is read
 pub written_blocks : (b : List ℕ) (end steps at n : ℕ) → Bytes b → end ≤ length b → at ≤ end → end ≤ at + steps → is_ok (walk b end steps at n) ≡ true
-    → (section (blocks_at b end steps at) ++ drop end b ≡ drop at b) × All Writable (blocks_at b end steps at)
+    → (section (blocks_at b end steps at) ++ drop end b ≡ drop at b) × AllByRecursion Writable (blocks_at b end steps at)
 written_blocks b end zero at n h l a m e = let q : end ≡ at = omega arith in (rw q, tt)
 written_blocks b end (suc steps) at n h l a m e =
     ⊎_elim

@@ -1,8 +1,8 @@
 -- Judging: the groups of checks are the list of checks, its refusal is the first, and what it says of the blocks.
-use Rattle.std.proofs.Common.{◌≡◌, ℕ, zero, suc, ◌+◌, ◌<◌, ◌≤◌, Bool, true, false, ltb, List, [], ◌∷◌, ◌++◌, length, get_or, Ok, Err, Result, sym, refl, ◌∙◌, ⊎_elim, arith, MatchResult}
+use Rattle.std.proofs.Common.{◌≡◌, ℕ, zero, suc, ◌+◌, ◌<◌, ◌≤◌, Bool, true, false, List, [], ◌∷◌, ◌++◌, get_or, Ok, Err, Result, sym, refl, ⊎_elim, arith, MatchResult}
 use Rattle.std.proofs.lemmas.Result.{MatchResult-weaker}
 use Rattle.std.proofs.lemmas.Bool.{cases_lt, lt-ltb, le-ltb}
-use Rattle.std.specs.List.{AllByRecursion as All}
+use Rattle.std.specs.List.{AllByRecursion}
 use Rattle.buffers.specs.Words.{word32}
 use Rattle.faults.specs.declared.fault.Fault.{Fault}
 use Rattle.faults.specs.declared.refusal.Refusal.TheVariants.{TooFewBytes, Version, ExtentTooSmall, ExtentsDisagree, Bins, Cells, Channels, SectionTooLong, DataCut}
@@ -77,7 +77,7 @@ outside_from i v c o f e =
     (cases_lt v i)
 
 -- checks outside the section, and then others
-past : {X : Type 0} (b : List ℕ) (cs ds : List Check) (x : X) (P : X → Type 0) → All Outside cs → MatchResult (first_of ds x) P (CutThere b)
+past : {X : Type 0} (b : List ℕ) (cs ds : List Check) (x : X) (P : X → Type 0) → AllByRecursion Outside cs → MatchResult (first_of ds x) P (CutThere b)
     → MatchResult (first_of (cs ++ ds) x) P (CutThere b)
 past b [] ds x P o h = h
 past b (Ok _ ∷ cs) ds x P o h = past b cs ds x P o.1 h
@@ -111,21 +111,21 @@ outside_covers b v i at = outside_from i v _ (outside_unless _ (fault ExtentTooS
 outside_agrees : (b : List ℕ) (v i at : ℕ) → Outside (agrees b v i at)
 outside_agrees b v i at = outside_from i v _ (outside_unless _ (fault ExtentsDisagree at) (λ e. omega arith))
 
-outside_opening : (b : List ℕ) → All Outside (opening b)
+outside_opening : (b : List ℕ) → AllByRecursion Outside (opening b)
 outside_opening b =
     (outside_longer b 10, (outside_unless _ (fault Version 0) (λ e. omega arith), (outside_longer b (header_end (version b)), tt)))
 
-outside_covering : (b : List ℕ) (v : ℕ) → All Outside (covering b v)
+outside_covering : (b : List ℕ) (v : ℕ) → AllByRecursion Outside (covering b v)
 outside_covering b v =
     let o = outside_covers b v in
     (o 1 6, (o 2 12, (o 3 20, (o 4 68, (o 5 96, tt)))))
 
-outside_agreeing : (b : List ℕ) (v : ℕ) → All Outside (agreeing b v)
+outside_agreeing : (b : List ℕ) (v : ℕ) → AllByRecursion Outside (agreeing b v)
 outside_agreeing b v =
     let o = outside_agrees b v in
     (o 2 12, (o 3 20, (o 4 68, (o 5 96, tt))))
 
-outside_sizing : (b : List ℕ) (v : ℕ) → All Outside (sizing b v)
+outside_sizing : (b : List ℕ) (v : ℕ) → AllByRecursion Outside (sizing b v)
 outside_sizing b v = (
   outside_from 4 v _ (outside_unless _ (fault Bins 52) (λ e. omega arith)),
   (
@@ -134,7 +134,7 @@ outside_sizing b v = (
   ),
 )
 
-outside_holding : (b : List ℕ) (v : ℕ) → All Outside (holding b v)
+outside_holding : (b : List ℕ) (v : ℕ) → AllByRecursion Outside (holding b v)
 outside_holding b v = (
   outside_unless _ (fault DataCut (data_start b)) (λ e. omega arith),
   (outside_from 6 v _ (outside_unless _ (fault SectionTooLong 100) (λ e. omega arith)), tt),

@@ -1,16 +1,15 @@
 -- What each check passes, in words of the bytes: a file is accepted exactly when all of these hold.
-use Rattle.std.proofs.Common.{◌≡◌, ℕ, ◌+◌, ◌-◌, ◌^◌, ◌<◌, ◌≤◌, Bool, true, false, cond, ◌&&◌, eqb, ltb, leb, List, length, pos, is_ok, Ok, Err, Decides, Result, refl, ⊎_elim, arith, w16, w32, to_z}
+use Rattle.std.proofs.Common.{◌≡◌, ℕ, ◌+◌, ◌-◌, ◌^◌, ◌<◌, ◌≤◌, Bool, true, false, ◌&&◌, leb, List, length, pos, is_ok, Ok, Err, Decides, Result, refl, ⊎_elim, arith, w16, w32, to_z}
 use lib.Signed.{le_z}
-use Rattle.std.proofs.lemmas.Int.{ints, to_z_pos}
+use Rattle.std.proofs.lemmas.Int.{to_z_pos}
 use Rattle.std.proofs.lemmas.Bool.{cases_lt, le-ltb, lt-ltb, le-leb, leb-true, false≢true}
-use Rattle.std.proofs.lemmas.Bool.Decides.{Decides-and, Decides-ltb, Decides-eqb, nat_tests}
-use Rattle.buffers.specs.Words.{word16, word32}
+use Rattle.std.proofs.lemmas.Bool.Decides.{Decides-and, Decides-ltb, Decides-eqb}
+use Rattle.buffers.specs.Words.{word32}
 use Rattle.faults.specs.declared.fault.Fault.{Fault}
 use Rattle.format.specs.Checks.{Check, unless, from, ◌then◌, passed}
 use Rattle.format.specs.Header.{version, header_end, data_start, section_size}
-use Rattle.format.specs.Judging.{longer, versioned, covers, agrees, blocks_of, judged}
+use Rattle.format.specs.Judging.{covers, agrees, blocks_of, judged}
 use Rattle.format.specs.Rows.{cells_size}
-use Rattle.format.specs.Section.{section_blocks}
 use Rattle.format.specs.Sizes.{sizes_of}
 
 then_tells : {X P Q : Type 0} (c : Check) (n : Result X Fault) → Decides (is_ok c) P → Decides (is_ok n) Q → Decides (is_ok (c then n)) (P × Q)

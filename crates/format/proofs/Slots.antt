@@ -1,8 +1,8 @@
 -- The header as a list of slots: what was packed is unpacked, and what is unpacked was packed.
-use Rattle.std.proofs.Common.{◌≡◌, ℕ, ◌+◌, ◌-◌, ◌^◌, ◌<◌, ◌≤◌, Bool, true, false, cond, ltb, List, [], ◌∷◌, ◌++◌, length, drop, sym, refl, ap, ◌∙◌, ⊎_elim, append_assoc, arith}
+use Rattle.std.proofs.Common.{◌≡◌, ℕ, ◌+◌, ◌-◌, ◌^◌, ◌<◌, ◌≤◌, Bool, true, false, cond, List, [], ◌∷◌, ◌++◌, length, drop, refl, ap, ◌∙◌, ⊎_elim, append_assoc, arith}
 use Rattle.std.proofs.lemmas.Bool.{cases_lt, le-ltb, lt-ltb}
 use Rattle.buffers.proofs.Encoded.{word_lt, reads, goes_on, writes}
-use Rattle.buffers.specs.Words.{Width, size, limit, word, word16, word32, be, Bytes}
+use Rattle.buffers.specs.Words.{size, limit, word, word16, word32, be, Bytes}
 use Rattle.format.specs.Content.{Slot, own, follows, has, slots, pack, unpack, Fit}
 use Rattle.format.specs.Header.{header_end}
 

@@ -1,10 +1,10 @@
 -- Where the fields of a header stand, and what it means to write one of its words anew.
-use Rattle.std.proofs.Common.{◌≡◌, ℕ, zero, suc, ◌+◌, ◌<◌, ◌≤◌, Bool, true, false, cond, ltb, List, [], ◌∷◌, ◌++◌, map, length, get_or, take, drop, set, sym, refl, ap, ◌∙◌, ⊎_elim, append_assoc, arith}
+use Rattle.std.proofs.Common.{◌≡◌, ℕ, zero, suc, ◌+◌, ◌<◌, ◌≤◌, cond, ltb, List, [], ◌∷◌, ◌++◌, map, length, get_or, take, drop, set, sym, refl, ap, ◌∙◌, ⊎_elim, append_assoc, arith}
 use Rattle.std.proofs.lemmas.List.{length-append, take_at, drop_at}
 use Rattle.std.proofs.lemmas.Bool.{cases_lt, le-ltb, lt-ltb}
 use Rattle.buffers.proofs.Encoded.{be-length}
 use Rattle.buffers.specs.Moves.{written}
-use Rattle.buffers.specs.Words.{Width, four, size, limit, word, be}
+use Rattle.buffers.specs.Words.{Width, four, size, word, be}
 use Rattle.format.specs.Content.{Slot, own, follows, slots, pack, unpack, Fit}
 use Rattle.format.specs.Header.{Field, fields}
 use Rattle.format.proofs.Slots.{end}

@@ -1,20 +1,20 @@
 -- Accepted bytes are exactly the writings of sound contents, each of one: from bytes to content and back.
-use Rattle.std.proofs.Common.{◌≡◌, ℕ, ◌+◌, ◌-◌, ◌*◌, ◌^◌, ◌<◌, ◌≤◌, true, cond, ltb, leb, List, [], ◌∷◌, ◌++◌, length, take, drop, is_ok, Ok, Err, Result, sym, refl, ap, ◌∙◌, subst, ⊎_elim, add-zero, mul-pos, arith, MatchResult}
+use Rattle.std.proofs.Common.{◌≡◌, ℕ, ◌+◌, ◌-◌, ◌^◌, ◌<◌, ◌≤◌, true, cond, ltb, List, [], ◌++◌, length, drop, is_ok, Ok, Err, Result, sym, refl, ap, ◌∙◌, subst, ⊎_elim, add-zero, mul-pos, arith, MatchResult}
 use Rattle.std.proofs.ByRecursion.{All-take, All-drop}
 use Rattle.std.proofs.lemmas.List.{length-append, length-take-le, length-drop}
 use Rattle.std.proofs.lemmas.Bool.{cases_lt, le-ltb, lt-ltb, lt-leb, cond-true, cond-false, false≢true}
 use Rattle.std.proofs.lemmas.Bool.Decides.{nat_tests}
-use Rattle.std.specs.List.{AllByRecursion as All}
+use Rattle.std.specs.List.{AllByRecursion}
 use Rattle.buffers.specs.Words.{word16, word32, Bytes}
 use Rattle.faults.specs.declared.fault.Fault.{Fault}
 use Rattle.format.specs.declared.judging.Layout.{Layout}
 use Rattle.format.specs.declared.sizes.Sizes.{Sizes}
-use Rattle.format.specs.Content.{Slot, Block, Content, slots, pack, unpack, Fit, section, start, header_slots, write, field_in, content_sizes, Writable, Sound, blocks_at, section_end, fields_of, content_at, content, WritingOf, Unwritten}
-use Rattle.format.specs.Header.{version, header_end, data_start, section_size}
+use Rattle.format.specs.Content.{Slot, Block, Content, pack, unpack, Fit, section, start, header_slots, write, field_in, content_sizes, Writable, Sound, blocks_at, section_end, fields_of, content_at, content, WritingOf, Unwritten}
+use Rattle.format.specs.Header.{header_end, data_start, section_size}
 use Rattle.format.specs.Judging.{blocks_of, judged}
 use Rattle.format.specs.Rows.{bin_width, cells_size}
 use Rattle.format.specs.Section.{walk}
-use Rattle.format.specs.Sizes.{quality_in, sizes_in, sizes_of}
+use Rattle.format.specs.Sizes.{sizes_in, sizes_of}
 use Rattle.format.proofs.Blocks.{read_blocks, written_blocks}
 use Rattle.format.proofs.Pieces.{piece, take_there, drop_there}
 use Rattle.format.proofs.Rules.{Covers, Agrees, Rules, judged_tells}
@@ -67,7 +67,7 @@ walk_is b v l =
 
 -- no blocks, behind a header that ends at e
 none_written : (b : List ℕ) (s e d : ℕ) → s ≡ 0 → e ≤ d
-    → (section (blocks_at b (e + s) s e) ++ drop (e + s) b ≡ drop e b) × All Writable (blocks_at b (e + s) s e) × (e + s ≤ d)
+    → (section (blocks_at b (e + s) s e) ++ drop (e + s) b ≡ drop e b) × AllByRecursion Writable (blocks_at b (e + s) s e) × (e + s ≤ d)
 none_written b s e d z l = rw z (ap (λ x. drop x b) (add-zero e), tt, omega arith)
 
 none_read : (b : List ℕ) (s e : ℕ) → s ≡ 0 → blocks_at b (e + s) s e ≡ []
@@ -75,7 +75,7 @@ none_read b s e z = rw z
 
 -- blocks that pass, behind a header that ends at e
 some_written : (b : List ℕ) (s e d : ℕ) → Bytes b → e ≡ 104 → 104 + s ≤ d → d ≤ length b → is_ok (walk b (104 + s) s 104 0) ≡ true
-    → (section (blocks_at b (e + s) s e) ++ drop (e + s) b ≡ drop e b) × All Writable (blocks_at b (e + s) s e) × (e + s ≤ d)
+    → (section (blocks_at b (e + s) s e) ++ drop (e + s) b ≡ drop e b) × AllByRecursion Writable (blocks_at b (e + s) s e) × (e + s ≤ d)
 some_written b s e d h is room whole ok =
     let p = written_blocks b (104 + s) s 104 0 h (omega arith) (omega arith) (omega arith) ok in
     rw is (p.0, p.1, room)
@@ -83,7 +83,7 @@ some_written b s e d h is room whole ok =
 -- the blocks of an accepted file, of any version
 blocks_written : (b : List ℕ) (v : ℕ) → Bytes b → header_end v ≤ data_start b → data_start b ≤ length b
     → (6 ≤ v → 104 + section_size b v ≤ data_start b) → is_ok (blocks_of b v) ≡ true
-    → (section (content_at b v).blocks ++ drop (section_end b v) b ≡ drop (header_end v) b) × All Writable (content_at b v).blocks
+    → (section (content_at b v).blocks ++ drop (section_end b v) b ≡ drop (header_end v) b) × AllByRecursion Writable (content_at b v).blocks
     × (section_end b v ≤ data_start b)
 blocks_written b v h covers whole room ok =
     ⊎_elim
@@ -186,14 +186,14 @@ read_sound b v ev h rest =
 none_there : (b : List ℕ) (s e : ℕ) (rest : List ℕ) → s ≡ 0 → drop e b ≡ rest → (blocks_at b (e + s) s e ≡ []) × (drop (e + s) b ≡ rest)
 none_there b s e rest z h = rw z (refl, ap (λ x. drop x b) (add-zero e) ∙ h)
 
-some_there : (b : List ℕ) (s e : ℕ) (ks : List Block) (rest : List ℕ) → e ≡ 104 → s ≡ length (section ks) → All Writable ks → drop e b ≡ section ks ++ rest
+some_there : (b : List ℕ) (s e : ℕ) (ks : List Block) (rest : List ℕ) → e ≡ 104 → s ≡ length (section ks) → AllByRecursion Writable ks → drop e b ≡ section ks ++ rest
     → (blocks_at b (e + s) s e ≡ ks) × (drop (e + s) b ≡ rest) × (is_ok (walk b (104 + s) s 104 0) ≡ true)
 some_there b s e ks rest is long h at_head =
     let at-104 : drop 104 b ≡ section ks ++ rest = rw is at at_head in
     let p = read_blocks ks b (104 + s) s 104 0 rest h at-104 (omega arith) (omega arith) in
     rw is (p.1, p.2, p.0)
 
-blocks_read : (b : List ℕ) (v : ℕ) (ks : List Block) (rest : List ℕ) → All Writable ks → (v < 6 → ks ≡ [])
+blocks_read : (b : List ℕ) (v : ℕ) (ks : List Block) (rest : List ℕ) → AllByRecursion Writable ks → (v < 6 → ks ≡ [])
     → (6 ≤ v → word32 b 100 ≡ length (section ks)) → drop (header_end v) b ≡ section ks ++ rest
     → ((content_at b v).blocks ≡ ks) × (drop (section_end b v) b ≡ rest) × (section_size b v ≡ length (section ks)) × (is_ok (blocks_of b v) ≡ true)
 blocks_read b v ks rest h none long e =

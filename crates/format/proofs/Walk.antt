@@ -1,5 +1,5 @@
 -- The walk over the blocks: its one unfolding law, and what its outcome says of the bytes.
-use Rattle.std.proofs.Common.{◌≡◌, ℕ, zero, suc, ◌+◌, ◌-◌, ◌<◌, ◌≤◌, cond, leb, List, Ok, Err, sym, refl, ◌∙◌, subst, inl, inr, ⊎_elim, add-one, arith, MatchResult}
+use Rattle.std.proofs.Common.{◌≡◌, ℕ, zero, suc, ◌+◌, ◌-◌, ◌<◌, ◌≤◌, List, Ok, Err, sym, refl, ◌∙◌, subst, inl, inr, ⊎_elim, add-one, arith, MatchResult}
 use Rattle.std.proofs.lemmas.Bool.{cases_lt, le-leb, lt-leb}
 use Rattle.std.proofs.lemmas.Bool.Decides.{nat_tests}
 use Rattle.buffers.specs.Words.{word32}

@@ -1,17 +1,17 @@
 -- How the writing of a content changes with the content.
-use Rattle.std.proofs.Common.{◌≡◌, ℕ, zero, suc, ◌+◌, ◌-◌, ◌^◌, ◌<◌, ◌≤◌, List, [], ◌∷◌, ◌++◌, map, length, get_or, take, drop, set, sym, refl, ap, ◌∙◌, subst, append_assoc, append-nil, add-zero, arith, rules}
-use Rattle.std.proofs.lemmas.List.{same_lists, places, length-append, length-map, length-take-le, take_at, drop_at, drop-drop, take-append-drop, get_or-map, get_or-take}
+use Rattle.std.proofs.Common.{◌≡◌, ℕ, ◌+◌, ◌-◌, ◌<◌, ◌≤◌, List, [], ◌∷◌, ◌++◌, map, length, get_or, take, drop, sym, refl, ap, ◌∙◌, subst, append_assoc, append-nil, add-zero, arith, rules}
+use Rattle.std.proofs.lemmas.List.{same_lists, places, length-append, length-map, length-take-le, drop_at, get_or-map, get_or-take}
 use Rattle.std.proofs.lemmas.Bool.{le-ltb}
 use Rattle.std.proofs.lemmas.Bool.Decides.{nat_tests}
 use Rattle.buffers.proofs.Encoded.{be-length}
 use Rattle.buffers.specs.Moves.{written}
-use Rattle.buffers.specs.Words.{Width, two, four, size, word, word32, be, be32}
-use Rattle.format.specs.Changes.{with_blocks, with_field, with_cells, with_header, settled, HeaderWords, BlocksChange, BlockAdded, HeaderChange, FieldChange, CellsChange, VersionChange, Changes, WritingChanges}
+use Rattle.buffers.specs.Words.{Width, two, four, size, word, be, be32}
+use Rattle.format.specs.Changes.{with_blocks, with_header, settled, HeaderWords, BlocksChange, BlockAdded, HeaderChange, FieldChange, CellsChange, VersionChange, WritingChanges}
 use Rattle.format.specs.Content.{Slot, own, follows, fields_at, level, slots, pack, unpack, Fit, Block, Content, block_bytes, section, start, header_slots, header, write, field_in, Sound}
-use Rattle.format.specs.Header.{Field, field, fields, the_field, version, pattern, header_end}
+use Rattle.format.specs.Header.{Field, field, fields, the_field, pattern, header_end}
 use Rattle.format.proofs.Pieces.{take_there, drop_there}
 use Rattle.format.proofs.Slots.{end, read_back, words_known, within_slots, end_slots}
-use Rattle.format.proofs.Spots.{Spot, nowhere, spot, owned, field_count, owned_slots, owned_length, unpack_owned, written_mid, pack_set, pack_put}
+use Rattle.format.proofs.Spots.{Spot, nowhere, spot, owned, field_count, owned_slots, owned_length, unpack_owned, pack_set, pack_put}
 
 -- a packed header is as long as its slots
 pack-length : (ss : List Slot) (fs : List ℕ) (at : ℕ) → Fit ss fs → at + length (pack ss fs) ≡ end ss at

@@ -1,5 +1,5 @@
 -- How the writing of a content changes with the content: each change as an equation with parts of the old writing.
-use Rattle.std.specs.Prelude.{◌≡◌, ℕ, ◌+◌, ◌-◌, ◌<◌, ◌≤◌, List, [], ◌∷◌, ◌++◌, length, take, drop, set, slice_set}
+use Rattle.std.specs.Prelude.{◌≡◌, ℕ, ◌+◌, ◌-◌, ◌≤◌, List, [], ◌∷◌, ◌++◌, length, take, drop, slice_set}
 use Rattle.buffers.specs.Moves.{written}
 use Rattle.buffers.specs.Words.{word32, be, be32}
 use Rattle.format.specs.Content.{Block, Content, block_bytes, section, start, header, write, field_in, Sound}

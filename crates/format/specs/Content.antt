@@ -1,6 +1,6 @@
 -- The content of a file, and the bytes that a content is written as.
 use Rattle.std.specs.Prelude.{◌≡◌, ℕ, zero, suc, ◌+◌, ◌-◌, ◌^◌, ◌<◌, ◌≤◌, cond, List, [], ◌∷◌, ◌++◌, length, take, drop, ◌==◌, ◌≢◌, nat_le, nat_lt, slice_index}
-use Rattle.std.specs.List.{AllByRecursion as All}
+use Rattle.std.specs.List.{AllByRecursion}
 use Rattle.buffers.specs.Words.{Width, two, four, size, limit, word, be, word32, be32, Bytes}
 use Rattle.format.specs.declared.sizes.Sizes.{Sizes}
 use Rattle.format.specs.Header.{Field, fields, version, header_end, data_start, section_size}
@@ -125,7 +125,7 @@ pub record Sound (c : Content) : Type 0 where
   pub ranges_to : (content_sizes c).ranges ≤ 8192
   pub channels : (content_sizes c).channels ≡ 3
   -- every block can be written, and there is none below version 6
-  pub blocks_fit : All Writable c.blocks
+  pub blocks_fit : AllByRecursion Writable c.blocks
   pub blocks_from_six : c.version < 6 → c.blocks ≡ []
   -- gap, cells and tail are bytes, and the cells have the size that the fields give
   pub gap_bytes : Bytes c.gap

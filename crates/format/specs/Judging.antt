@@ -1,5 +1,5 @@
 -- Judging a file: the checks in their order, and what an accepted file is shown as.
-use Rattle.std.specs.Prelude.{◌≡◌, ℕ, ◌+◌, ◌-◌, ◌≤◌, Bool, cond, ◌&&◌, List, [], ◌∷◌, ◌++◌, length, pos, Ok, Err, Result, MatchResult, ◌==◌, int_le, nat_le, nat_lt}
+use Rattle.std.specs.Prelude.{◌≡◌, ℕ, ◌+◌, ◌-◌, ◌≤◌, cond, ◌&&◌, List, [], ◌∷◌, ◌++◌, length, pos, Ok, Err, Result, MatchResult, ◌==◌, int_le, nat_le, nat_lt}
 use Rattle.buffers.specs.Words.{int16, int32, word32}
 use Rattle.faults.specs.declared.fault.Fault.{Fault}
 use Rattle.faults.specs.declared.refusal.Refusal.TheVariants.{TooFewBytes, Version, ExtentTooSmall, ExtentsDisagree, Bins, Cells, Channels, SectionTooLong, DataCut}

@@ -1,4 +1,6 @@
 //! The cross spectra format: judging a file, and the layout of an accepted one.
+#![tactic(auto)]
+
 mod header;
 mod judging;
 mod section;

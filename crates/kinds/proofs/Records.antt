@@ -1,17 +1,15 @@
 -- Packed records keep the conditions of a kind, whatever their parts.
-use Rattle.std.proofs.Common.{◌≡◌, ℕ, zero, suc, ◌+◌, ◌-◌, ◌*◌, ◌/◌, ◌%◌, ◌^◌, ◌<◌, ◌≤◌, Bool, true, false, cond, ◌&&◌, eqb, ltb, leb, ◌⊎◌, List, [], ◌∷◌, ◌++◌, length, get_or, take, drop, ℤ, pos, negsuc, Ok, Err, Result, sym, refl, ap, ◌∙◌, subst, inl, inr, ⊎_elim, append_assoc, append-nil, add-zero, add_assoc, zero-add, arith, w16, SFits, to_z, rules}
+use Rattle.std.proofs.Common.{◌≡◌, ℕ, suc, ◌+◌, ◌-◌, ◌*◌, ◌/◌, ◌%◌, ◌<◌, ◌≤◌, Bool, true, false, cond, eqb, ltb, leb, ◌⊎◌, List, [], ◌∷◌, ◌++◌, length, get_or, take, drop, ℤ, pos, negsuc, Ok, Err, Result, sym, refl, ap, ◌∙◌, subst, inl, ⊎_elim, append_assoc, append-nil, arith, w16, SFits, to_z, rules}
 use Rattle.std.proofs.lemmas.List.{same_lists, places, length-append, length-take, get_or-take, nil_from_length}
-use Rattle.std.proofs.lemmas.Int.{to_z_pos}
-use Rattle.std.proofs.lemmas.Bool.{cases_lt, lt-ltb, le-ltb, le-leb, lt-leb, ltb-true, ltb-false, and_parts, cases_Bool, cases_eq, eq-eqb, ne_eqb, cond-true, cond-false, cond_both, false≢true}
-use Rattle.std.proofs.lemmas.Bool.Decides.{nat_tests}
+use Rattle.std.proofs.lemmas.Bool.{cases_lt, lt-ltb, le-ltb, le-leb, lt-leb, ltb-true, and_parts, cases_Bool, cases_eq, eq-eqb, ne_eqb, cond-true, cond-false, cond_both, false≢true}
 use Rattle.buffers.proofs.Encoded.{be-length, reads, goes_on}
 use Rattle.buffers.specs.Moves.{written}
-use Rattle.buffers.specs.Words.{Width, one, two, four, eight, size, limit, word, word16, be, be16}
+use Rattle.buffers.specs.Words.{Width, one, two, four, eight, size, limit, word}
 use Rattle.faults.specs.declared.fault.Fault.{Fault}
 use Rattle.faults.specs.declared.refusal.Refusal.{Refusal}
 use Rattle.faults.specs.declared.refusal.Refusal.TheVariants.{RecordShort, TextWithoutZero, TextUnfit, ListOrTableTooShort}
 use Rattle.faults.specs.Faults.{fault}
-use Rattle.kinds.specs.Kind.{Outcome, accepted, refused, Output, bytes, declined, KindSpec, Steady, Returns, Keeps, measured, put_answer, put_buffer}
+use Rattle.kinds.specs.Kind.{accepted, refused, Output, bytes, declined, Steady, Returns, Keeps, measured, put_answer, put_buffer}
 use Rattle.kinds.specs.Packed.{Part, plain, signed, folded, pattern_of, part_size, part_at, part_fits, part_bytes, total, values, fit, packed, filled, record_reads, record_writes, record_kind, textless}
 
 -- the two lists have the same bytes below n

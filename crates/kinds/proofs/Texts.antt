@@ -1,18 +1,15 @@
 -- Texts that end before a zero keep the conditions of a kind, whatever their limit.
-use Rattle.std.proofs.Common.{◌≡◌, ℕ, zero, suc, ◌+◌, ◌-◌, ◌<◌, ◌≤◌, Bool, true, false, cond, ltb, leb, ◌⊎◌, List, [], ◌∷◌, ◌++◌, length, take, drop, Ok, Err, Result, sym, refl, ap, ◌∙◌, subst, inl, inr, ⊎_elim, arith}
+use Rattle.std.proofs.Common.{◌≡◌, ℕ, zero, suc, ◌+◌, ◌<◌, ◌≤◌, Bool, false, ltb, ◌⊎◌, List, [], ◌∷◌, ◌++◌, length, take, Ok, sym, refl, ap, ◌∙◌, subst, inr, ⊎_elim, arith}
 use Rattle.std.proofs.lemmas.List.{length-append, length-take, take_all, take-take, take_at}
 use Rattle.std.proofs.lemmas.Bool.{cases_lt, lt-ltb, le-ltb, le-leb, cond-true, cond-false}
-use Rattle.std.proofs.lemmas.Bool.Decides.{nat_tests}
 use Rattle.std.specs.List.{prefix_len}
 use Rattle.buffers.specs.Moves.{written}
-use Rattle.faults.specs.declared.fault.Fault.{Fault}
 use Rattle.faults.specs.declared.refusal.Refusal.{Refusal}
-use Rattle.faults.specs.declared.refusal.Refusal.TheVariants.{RecordShort, TextWithoutZero, TextUnfit}
-use Rattle.faults.specs.Faults.{fault}
+use Rattle.faults.specs.declared.refusal.Refusal.TheVariants.{RecordShort, TextWithoutZero}
 use Rattle.kinds.specs.declared.ended.Limit.{Limit}
 use Rattle.kinds.specs.declared.ended.Limit.TheVariants.{Most, Any}
 use Rattle.kinds.specs.Ended.{before_zero, front, ended, text_reads, closed, limited, text_writes, text_kind}
-use Rattle.kinds.specs.Kind.{Outcome, accepted, refused, Output, bytes, declined, KindSpec, Steady, Returns, Keeps, measured, put_answer, put_buffer}
+use Rattle.kinds.specs.Kind.{accepted, refused, Output, bytes, declined, Steady, Returns, Keeps, measured, put_answer, put_buffer}
 use Rattle.kinds.proofs.Records.{written_twice}
 
 -- a list that begins as another does, past the other's first zero, has its first zero at the same place

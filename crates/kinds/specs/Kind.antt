@@ -1,11 +1,10 @@
 -- What a kind of block is: its key, how it reads and writes data, and the conditions that it keeps.
-use Rattle.std.specs.Prelude.{◌≡◌, ℕ, ◌+◌, ◌≤◌, cond, ◌⊎◌, List, [], ◌∷◌, ◌++◌, length, take, drop, Ok, Err, Result, nat_le}
-use Rattle.std.specs.Str.{bytes_eq}
+use Rattle.std.specs.Prelude.{◌≡◌, ℕ, ◌+◌, ◌≤◌, cond, ◌⊎◌, List, ◌++◌, length, take, drop, Ok, Err, Result, nat_le}
 use Rattle.buffers.specs.Moves.{written}
 use Rattle.faults.specs.declared.fault.Fault.{Fault}
 use Rattle.faults.specs.declared.refusal.Refusal.{Refusal}
-use Rattle.faults.specs.declared.refusal.Refusal.TheVariants.{Key, RecordShort, TextWithoutZero, TextUnfit, ListOrTableTooShort}
-use Rattle.faults.specs.Faults.{fault, in_block}
+use Rattle.faults.specs.declared.refusal.Refusal.TheVariants.{RecordShort, TextWithoutZero, TextUnfit, ListOrTableTooShort}
+use Rattle.faults.specs.Faults.{fault}
 use Rattle.kinds.specs.declared.kind.Reading.{Reading}
 
 -- reading data gives the numbers of a record, the place and the length of a text in the data, and the count of the bytes

@@ -3,7 +3,7 @@ use Rattle.std.specs.Prelude.{ℕ, suc, ◌+◌, ◌-◌, ◌*◌, ◌/◌, ◌%
 use Rattle.std.specs.Int.{w16}
 use Rattle.std.proofs.Common.{to_z}
 use Rattle.buffers.specs.Moves.{written}
-use Rattle.buffers.specs.Words.{Width, two, size, limit, word, word16, be, be16}
+use Rattle.buffers.specs.Words.{Width, size, limit, word, word16, be, be16}
 use Rattle.faults.specs.declared.fault.Fault.{Fault}
 use Rattle.faults.specs.declared.refusal.Refusal.TheVariants.{RecordShort, TextUnfit}
 use Rattle.faults.specs.Faults.{fault}

@@ -1,4 +1,6 @@
 //! The kinds of block: what a block's data mean, read and written by its kind.
+#![tactic(auto)]
+
 mod ended;
 mod kind;
 mod look;

@@ -1,4 +1,6 @@
 //! Kutsvame: judges and reads SeaSonde cross spectra files.
+#![tactic(auto)]
+
 mod blocks_shown;
 mod example;
 mod help;
@@ -10,13 +12,13 @@ mod row;
 mod show;
 mod words;
 
-use anyhow::anyhow;
 use example::judge_example;
 use help::HELP;
 use judge::judge_files;
 use misuse::misused;
 use row::row_words;
 use show::show_words;
+use std::process::ExitCode;
 use std::{env, io};
 use words::{Question, Verb, question_named, verb_named};
 
@@ -43,10 +45,10 @@ fn run(rt: &HostRuntime) -> io::Result<bool> {
     }
 }
 
-fn main(rt: HostRuntime) -> anyhow::Result<()> {
+fn main(rt: HostRuntime) -> io::Result<ExitCode> {
     if run(&rt)? {
-        Ok(())
+        Ok(ExitCode::SUCCESS)
     } else {
-        Err(anyhow!("refused"))
+        Ok(ExitCode::FAILURE)
     }
 }

@@ -1,4 +1,6 @@
 //! What is printed of a file, as values that say their own text; and the lists that the program makes to print.
+#![tactic(auto)]
+
 mod fields;
 mod heads;
 mod keys;

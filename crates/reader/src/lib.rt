@@ -1,4 +1,6 @@
 //! The judged file: a file's bytes with what judging read in them, and every question that a reader of a level may ask.
+#![tactic(auto)]
+
 mod blocks;
 mod fields;
 mod judged;

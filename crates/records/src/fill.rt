@@ -1,5 +1,5 @@
 //! FILL: how range cells and Doppler bins were filled in.
-ghost use Rattle.std.specs.Prelude.{◌≡◌, true, leb, length, if◌then◌else◌, codes, nat_le, refl};
+ghost use Rattle.std.specs.Prelude.{◌≡◌, true, length, if◌then◌else◌, codes, nat_le, refl};
 ghost use Rattle.buffers.specs.Moves.{written};
 ghost use Rattle.kinds.specs.Packed.{fit, packed};
 ghost use Rattle.records.specs.Fill.{fill_parts, fill_numbers, fill_kind};
@@ -27,7 +27,7 @@ pub struct Fill {
 fn put(value: Fill, out: &mut [u8]) -> bool
     ensures answer { result ≡ nat_le 4 (length out.old) }
     ensures fits { fit fill_parts (fill_numbers value) ≡ true }
-    ensures buffer { out.new ≡ (if leb 4 (length out.old) then written out.old 0 (packed fill_parts (fill_numbers value)) else out.old) }
+    ensures buffer { out.new ≡ (if nat_le 4 (length out.old) then written out.old 0 (packed fill_parts (fill_numbers value)) else out.old) }
 {
     if out.len() < 4 {
         return false;

@@ -1,5 +1,5 @@
 //! FWIN: the windows of the range and Doppler transforms.
-ghost use Rattle.std.specs.Prelude.{◌≡◌, true, leb, length, if◌then◌else◌, codes, nat_le, refl};
+ghost use Rattle.std.specs.Prelude.{◌≡◌, true, length, if◌then◌else◌, codes, nat_le, refl};
 ghost use Rattle.buffers.specs.Moves.{written};
 ghost use Rattle.kinds.specs.Packed.{fit, packed};
 ghost use Rattle.records.specs.Fwin.{fwin_parts, fwin_numbers, fwin_kind};
@@ -27,7 +27,7 @@ pub struct Fwin {
 fn put(value: Fwin, out: &mut [u8]) -> bool
     ensures answer { result ≡ nat_le 18 (length out.old) }
     ensures fits { fit fwin_parts (fwin_numbers value) ≡ true }
-    ensures buffer { out.new ≡ (if leb 18 (length out.old) then written out.old 0 (packed fwin_parts (fwin_numbers value)) else out.old) }
+    ensures buffer { out.new ≡ (if nat_le 18 (length out.old) then written out.old 0 (packed fwin_parts (fwin_numbers value)) else out.old) }
 {
     if out.len() < 18 {
         return false;

@@ -1,5 +1,5 @@
 //! GLRM: what was done to remove glitches.
-ghost use Rattle.std.specs.Prelude.{◌≡◌, true, leb, length, if◌then◌else◌, codes, nat_le, refl};
+ghost use Rattle.std.specs.Prelude.{◌≡◌, true, length, if◌then◌else◌, codes, nat_le, refl};
 ghost use Rattle.buffers.specs.Moves.{written};
 ghost use Rattle.kinds.specs.Packed.{fit, packed};
 ghost use Rattle.records.specs.Glrm.{glrm_parts, glrm_numbers, glrm_kind};
@@ -37,7 +37,7 @@ pub struct Glrm {
 fn put(value: Glrm, out: &mut [u8]) -> bool
     ensures answer { result ≡ nat_le 39 (length out.old) }
     ensures fits { fit glrm_parts (glrm_numbers value) ≡ true }
-    ensures buffer { out.new ≡ (if leb 39 (length out.old) then written out.old 0 (packed glrm_parts (glrm_numbers value)) else out.old) }
+    ensures buffer { out.new ≡ (if nat_le 39 (length out.old) then written out.old 0 (packed glrm_parts (glrm_numbers value)) else out.old) }
 {
     if out.len() < 39 {
         return false;

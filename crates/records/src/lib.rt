@@ -1,4 +1,6 @@
 //! The kinds of block that are packed records.
+#![tactic(auto)]
+
 mod fill;
 mod fwin;
 mod glrm;

@@ -1,5 +1,5 @@
 //! LOCA: where the receiver stands.
-ghost use Rattle.std.specs.Prelude.{◌≡◌, true, leb, length, if◌then◌else◌, codes, nat_le, refl};
+ghost use Rattle.std.specs.Prelude.{◌≡◌, true, length, if◌then◌else◌, codes, nat_le, refl};
 ghost use Rattle.buffers.specs.Moves.{written};
 ghost use Rattle.kinds.specs.Packed.{fit, packed};
 ghost use Rattle.records.specs.Loca.{loca_parts, loca_numbers, loca_kind};
@@ -25,7 +25,7 @@ pub struct Loca {
 fn put(value: Loca, out: &mut [u8]) -> bool
     ensures answer { result ≡ nat_le 24 (length out.old) }
     ensures fits { fit loca_parts (loca_numbers value) ≡ true }
-    ensures buffer { out.new ≡ (if leb 24 (length out.old) then written out.old 0 (packed loca_parts (loca_numbers value)) else out.old) }
+    ensures buffer { out.new ≡ (if nat_le 24 (length out.old) then written out.old 0 (packed loca_parts (loca_numbers value)) else out.old) }
 {
     if out.len() < 24 {
         return false;

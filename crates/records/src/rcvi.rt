@@ -1,5 +1,5 @@
 //! RCVI: the description of the receiver.
-ghost use Rattle.std.specs.Prelude.{◌≡◌, ◌≤◌, true, leb, length, if◌then◌else◌, nat_le};
+ghost use Rattle.std.specs.Prelude.{◌≡◌, ◌≤◌, true, length, if◌then◌else◌, nat_le};
 ghost use Rattle.buffers.specs.Moves.{written};
 ghost use Rattle.kinds.specs.Packed.{fit, packed};
 ghost use Rattle.records.specs.Rcvi.{rcvi_parts, rcvi_numbers, rcvi_bytes, rcvi_size, rcvi_kind};
@@ -41,7 +41,7 @@ fn put(value: Rcvi, text: &[u8], out: &mut [u8]) -> bool
     requires { length text.now ≤ 31 }
     ensures answer { result ≡ nat_le 48 (length out.old) }
     ensures fits { fit rcvi_parts (rcvi_numbers value) ≡ true }
-    ensures buffer { out.new ≡ (if leb 48 (length out.old) then written out.old 0 (rcvi_bytes (packed rcvi_parts (rcvi_numbers value)) text.now) else out.old) }
+    ensures buffer { out.new ≡ (if nat_le 48 (length out.old) then written out.old 0 (rcvi_bytes (packed rcvi_parts (rcvi_numbers value)) text.now) else out.old) }
 {
     if out.len() < 48 {
         return false;

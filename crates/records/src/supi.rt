@@ -1,5 +1,5 @@
 //! SUPI: what was done to suppress stripes.
-ghost use Rattle.std.specs.Prelude.{◌≡◌, true, leb, length, if◌then◌else◌, codes, nat_le, refl};
+ghost use Rattle.std.specs.Prelude.{◌≡◌, true, length, if◌then◌else◌, codes, nat_le, refl};
 ghost use Rattle.buffers.specs.Moves.{written};
 ghost use Rattle.kinds.specs.Packed.{fit, packed};
 ghost use Rattle.records.specs.Supi.{supi_parts, supi_numbers, supi_kind};
@@ -39,7 +39,7 @@ pub struct Supi {
 fn put(value: Supi, out: &mut [u8]) -> bool
     ensures answer { result ≡ nat_le 28 (length out.old) }
     ensures fits { fit supi_parts (supi_numbers value) ≡ true }
-    ensures buffer { out.new ≡ (if leb 28 (length out.old) then written out.old 0 (packed supi_parts (supi_numbers value)) else out.old) }
+    ensures buffer { out.new ≡ (if nat_le 28 (length out.old) then written out.old 0 (packed supi_parts (supi_numbers value)) else out.old) }
 {
     if out.len() < 28 {
         return false;

@@ -1,5 +1,5 @@
 //! TIME: a time stamp, finer than that of the header.
-ghost use Rattle.std.specs.Prelude.{◌≡◌, true, leb, length, if◌then◌else◌, codes, nat_le, refl};
+ghost use Rattle.std.specs.Prelude.{◌≡◌, true, length, if◌then◌else◌, codes, nat_le, refl};
 ghost use Rattle.buffers.specs.Moves.{written};
 ghost use Rattle.kinds.specs.Packed.{fit, packed};
 ghost use Rattle.records.specs.Time.{time_parts, time_numbers, time_kind};
@@ -37,7 +37,7 @@ pub struct Time {
 fn put(value: Time, out: &mut [u8]) -> bool
     ensures answer { result ≡ nat_le 31 (length out.old) }
     ensures fits { fit time_parts (time_numbers value) ≡ true }
-    ensures buffer { out.new ≡ (if leb 31 (length out.old) then written out.old 0 (packed time_parts (time_numbers value)) else out.old) }
+    ensures buffer { out.new ≡ (if nat_le 31 (length out.old) then written out.old 0 (packed time_parts (time_numbers value)) else out.old) }
 {
     if out.len() < 31 {
         return false;

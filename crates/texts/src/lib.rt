@@ -1,4 +1,6 @@
 //! The kinds of block that are texts ended by a zero.
+#![tactic(auto)]
+
 mod city;
 mod sitd;
 mod tool;

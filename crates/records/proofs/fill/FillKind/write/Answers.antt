@@ -1,7 +1,5 @@
-use Rattle.std.proofs.Common.{Ok, Err, sym, refl, ap, ◌∙◌}
-use Rattle.faults.specs.declared.refusal.Refusal.TheVariants.{ListOrTableTooShort}
-use Rattle.faults.specs.Faults.{fault}
-use Rattle.kinds.proofs.Records.{record_wrote, record_short, textless_is}
+use Rattle.std.proofs.Common.{Ok, sym, refl, ap, ◌∙◌}
+use Rattle.kinds.proofs.Records.{record_wrote, textless_is}
 use Rattle.records.specs.Fill.{fill_parts, fill_numbers}
 use Rattle.records.proofs.fill.FillKind.write.Goals as goal
 

@@ -1,8 +1,6 @@
 use Rattle.std.proofs.Common.{Ok, Err, sym, refl, ap, ◌∙◌}
 use Rattle.std.proofs.lemmas.Result.{err_from_is_err_and}
-use Rattle.faults.specs.declared.refusal.Refusal.TheVariants.{ListOrTableTooShort}
-use Rattle.faults.specs.Faults.{fault}
-use Rattle.kinds.proofs.Records.{record_wrote, record_short, record_declined, textless_is}
+use Rattle.kinds.proofs.Records.{record_wrote, record_declined, textless_is}
 use Rattle.records.specs.Glrm.{glrm_parts, glrm_numbers}
 use Rattle.records.proofs.glrm.GlrmKind.write.Goals as goal
 
