@@ -2,11 +2,10 @@
 # Measures the library, linked as C code, against plain Rust that does the same: one program to a benchmark. No part of the gate.
 set -eu
 cd "$(dirname "$0")/.."
-rt staticlib exports
-c_code=$(dirname "$(rt doc)")/../lib/librattle_c.a
+(cd crates/exports && rt lib)
 mkdir -p target/bench
 for name in numbers; do
-    rustc --edition 2021 -C opt-level=3 -L target/staticlib -l static=exports -C link-arg="$c_code" \
+    rustc --edition 2021 -C opt-level=3 -L crates/exports/out -l static=exports \
         -o "target/bench/$name" "bench/$name.rs"
     "target/bench/$name"
 done

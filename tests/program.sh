@@ -3,7 +3,7 @@
 set -u
 top=$(cd "$(dirname "$0")/.." && pwd)
 "$top/bin/kutsvame" >/dev/null || exit 1
-program=$top/target/bin/kutsvame
+program=$top/crates/kutsvame/out/kutsvame
 cd "$top/crates/kutsvame/data" || exit 1
 out=$(mktemp) err=$(mktemp) early=$(mktemp)
 trap 'rm -f "$out" "$err" "$early"' EXIT

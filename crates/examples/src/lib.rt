@@ -1,4 +1,6 @@
 //! The worked examples: file M, and what the definitions say of it.
+#![tactic(auto)]
+
 ghost use Rattle.std.specs.Prelude.{◌≡◌};
 ghost use Rattle.examples.specs.FileM.{file_m, put32};
 ghost use Rattle.examples.specs.Readings.{Readings};

@@ -1,5 +1,5 @@
 -- Checks in a row: what a check answers, and the first that fails.
-use Rattle.std.specs.Prelude.{◌≡◌, ℕ, ◌<◌, Bool, cond, List, [], ◌∷◌, length, get_or, Ok, Err, Result, nat_lt, slice_index_or}
+use Rattle.std.specs.Prelude.{◌≡◌, ℕ, ◌<◌, Bool, cond, List, [], ◌∷◌, length, Ok, Err, Result, nat_lt, slice_index_or}
 use Rattle.faults.specs.declared.fault.Fault.{Fault}
 
 -- a check passes, or answers its fault
@@ -49,4 +49,4 @@ pub record FirstFails (cs : List Check) (f : Fault) : Type 0 where
   pub which : ℕ
   pub within : which < length cs
   pub before : (j : ℕ) → j < which → slice_index_or cs j (Ok tt) ≡ Ok tt
-  pub fails : get_or cs which (Ok tt) ≡ Err f
+  pub fails : slice_index_or cs which (Ok tt) ≡ Err f

@@ -1,5 +1,5 @@
 -- Texts that end before a zero, without numbers.
-use Rattle.std.specs.Prelude.{ℕ, ◌+◌, cond, ltb, List, [], ◌∷◌, ◌++◌, length, take, Ok, Err, Result, nat_lt}
+use Rattle.std.specs.Prelude.{ℕ, ◌+◌, cond, List, [], ◌∷◌, ◌++◌, length, take, Ok, Err, Result, nat_lt}
 use Rattle.std.specs.List.{prefix_len}
 use Rattle.faults.specs.declared.fault.Fault.{Fault}
 use Rattle.faults.specs.declared.refusal.Refusal.TheVariants.{TextWithoutZero}
@@ -10,7 +10,7 @@ use Rattle.kinds.specs.Kind.{Outcome, accepted, refused, Output, bytes, declined
 
 -- how many bytes stand before the first zero, or all of them
 abbrev pub before_zero : List ℕ → ℕ
-before_zero b = prefix_len (ltb 0) b
+before_zero b = prefix_len (nat_lt 0) b
 
 -- the bytes among which the zero has to be
 abbrev pub front : Limit → List ℕ → List ℕ
