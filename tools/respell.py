@@ -5,7 +5,8 @@ usage: python3 tools/respell.py [--dry]     at the top of the repository
 
 Words are in snake case. A dash stays only in a lemma that joins two names, as `word-be` (reading what was encoded).
 Functions of src/, exported names, strings, inputs and outputs keep their names. The crate `bytes` becomes `buffers`,
-since the kit has a library named bytes. Names that would fall together stop the script with nothing written.
+since the kit has a library named bytes. Names that would fall together stop the script with nothing written, unless --force is given
+(the port did not need it).
 """
 import os
 import re
