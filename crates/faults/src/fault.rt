@@ -1,6 +1,6 @@
 //! The fault: a refusal with the layer, the block and the place that it speaks of.
 ghost use Rattle.std.specs.Prelude.{◌≡◌, Some};
-ghost use Rattle.faults.specs.Faults.{fault, in_block, block_text, place_text, fault_text};
+ghost use Rattle.faults.specs.Faults.{fault, in_block, fault_text};
 
 use crate::refusal::{Layer, Refusal};
 use std::fmt;
@@ -39,49 +39,22 @@ impl Fault {
     }
 }
 
-/// The block of a fault as it is printed, if it has one.
-#[derive(Drop)]
-struct BlockText(usize);
-
-impl fmt::Display for BlockText {
-    ghost output = { λ x. Some (block_text x.0) };
-
-    fn fmt<W: fmt::Write>(&self, f: &mut fmt::Formatter<W>) -> fmt::Result {
-        let block = self.0;
-        if block > 0 {
-            write!(f, ", block {block}")
-        } else {
-            Ok(())
-        }
-    }
-}
-
-/// The place of a fault as it is printed, if it is one of the file.
-#[derive(Drop)]
-struct PlaceText(Layer, usize);
-
-impl fmt::Display for PlaceText {
-    ghost output = { λ x. Some (place_text x.0 x.1) };
-
-    fn fmt<W: fmt::Write>(&self, f: &mut fmt::Formatter<W>) -> fmt::Result {
-        let place = self.1;
-        if self.0.number() < 5 {
-            write!(f, ", place {place}")
-        } else {
-            Ok(())
-        }
-    }
-}
-
 impl fmt::Display for Fault {
     ghost output = { λ x. Some (fault_text x) };
 
     fn fmt<W: fmt::Write>(&self, f: &mut fmt::Formatter<W>) -> fmt::Result {
         let number = self.refusal.number();
-        let name = self.refusal.name();
-        let layer = self.layer.name();
-        let block = BlockText(self.block);
-        let place = PlaceText(self.layer, self.place);
-        write!(f, "refused {number}: {name} ({layer}){block}{place}")
+        let refusal = self.refusal;
+        let layer = self.layer;
+        let block = self.block;
+        let place = self.place;
+        write!(f, "refused {number}: {refusal} ({layer})")?;
+        if block > 0 {
+            write!(f, ", block {block}")?;
+        }
+        if layer != Layer::Call {
+            write!(f, ", place {place}")?;
+        }
+        Ok(())
     }
 }

@@ -7,81 +7,81 @@ use std::fmt;
 /// Why a call refuses: one case for each number.
 #[derive(Clone, Copy, PartialEq, Eq, Debug)]
 pub enum Refusal {
-    /// 1: the file ends within its header.
-    TooFewBytes,
-    /// 2: the version is none from 1 to 32.
-    Version,
-    /// 3: an extent ends before the header does.
-    ExtentTooSmall,
-    /// 4: two extents lead to different places.
-    ExtentsDisagree,
-    /// 5: the count of Doppler bins is out of range.
-    Bins,
-    /// 6: the count of range cells is out of range.
-    Cells,
-    /// 7: the count of channels is not 3.
-    Channels,
-    /// 8: the section of blocks runs into the data.
-    SectionTooLong,
-    /// 9: a block's key and size do not fit into the section.
-    BlockHeadCut,
-    /// 10: a block's data do not fit into the section.
-    BlockDataCut,
-    /// 11: the file ends within its cells.
-    DataCut,
-    /// 12: the block has another key.
-    Key,
-    /// 13: the block's data are shorter than its record.
-    RecordShort,
-    /// 14: the block's text has no zero at its end.
-    TextWithoutZero,
-    /// 15: the text cannot be written.
-    TextUnfit,
-    /// 16: there is no such cell or row.
-    NoSuchCellOrRow,
-    /// 17: a length or a count is not the one wanted.
-    WrongLengthOrCount,
-    /// 18: there is no field of that number.
-    NoSuchField,
-    /// 19: a level is none from 1 to 6.
-    Level,
-    /// 20: the level is too low for what is asked.
-    LevelTooLow,
-    /// 21: the field steers the layout and cannot be set.
-    SteeringField,
-    /// 22: the caller's list or table is too short.
-    ListOrTableTooShort,
-    /// 31: there is no file.
-    NoFile,
-    /// 32: the file would exceed the capacity.
-    Capacity,
-    /// 33: the file's version lacks what is asked.
-    VersionLacksIt,
-    /// 34: there is no such block.
-    NoSuchBlock,
-    /// 35: there is no version to raise to.
-    NothingToRaise,
-    /// 36: a gap stands before the data.
-    Gap,
-    /// 37: the level does not know the layout of the data.
-    LayoutUnknown,
-    /// 38: all cells are laid, or some are missing.
-    CellCount,
+    /// The file ends within its header.
+    TooFewBytes = 1,
+    /// The version is none from 1 to 32.
+    Version = 2,
+    /// An extent ends before the header does.
+    ExtentTooSmall = 3,
+    /// Two extents lead to different places.
+    ExtentsDisagree = 4,
+    /// The count of Doppler bins is out of range.
+    Bins = 5,
+    /// The count of range cells is out of range.
+    Cells = 6,
+    /// The count of channels is not 3.
+    Channels = 7,
+    /// The section of blocks runs into the data.
+    SectionTooLong = 8,
+    /// A block's key and size do not fit into the section.
+    BlockHeadCut = 9,
+    /// A block's data do not fit into the section.
+    BlockDataCut = 10,
+    /// The file ends within its cells.
+    DataCut = 11,
+    /// The block has another key.
+    Key = 12,
+    /// The block's data are shorter than its record.
+    RecordShort = 13,
+    /// The block's text has no zero at its end.
+    TextWithoutZero = 14,
+    /// The text cannot be written.
+    TextUnfit = 15,
+    /// There is no such cell or row.
+    NoSuchCellOrRow = 16,
+    /// A length or a count is not the one wanted.
+    WrongLengthOrCount = 17,
+    /// There is no field of that number.
+    NoSuchField = 18,
+    /// A level is none from 1 to 6.
+    Level = 19,
+    /// The level is too low for what is asked.
+    LevelTooLow = 20,
+    /// The field steers the layout and cannot be set.
+    SteeringField = 21,
+    /// The caller's list or table is too short.
+    ListOrTableTooShort = 22,
+    /// There is no file.
+    NoFile = 31,
+    /// The file would exceed the capacity.
+    Capacity = 32,
+    /// The file's version lacks what is asked.
+    VersionLacksIt = 33,
+    /// There is no such block.
+    NoSuchBlock = 34,
+    /// There is no version to raise to.
+    NothingToRaise = 35,
+    /// A gap stands before the data.
+    Gap = 36,
+    /// The level does not know the layout of the data.
+    LayoutUnknown = 37,
+    /// All cells are laid, or some are missing.
+    CellCount = 38,
 }
 
 /// The part of a file, or the call, that a refusal speaks of.
 #[derive(Clone, Copy, PartialEq, Eq, Debug)]
 pub enum Layer {
-    /// 1: the file as a whole.
-    File,
-    /// 2: its header.
-    Header,
-    /// 3: its section of blocks.
-    Section,
-    /// 4: one block's data.
-    Block,
-    /// 5: the call and its arguments.
-    Call,
+    /// The file as a whole.
+    File = 1,
+    /// Its header.
+    Header = 2,
+    /// Its section of blocks.
+    Section = 3,
+    /// One block's data.
+    Block = 4,
+    /// The call and its arguments.
+    Call = 5,
 }
 
 impl Refusal {
@@ -90,49 +90,20 @@ impl Refusal {
         ensures value { result ≡ number_of self }
         ensures alone { Alone self }
     {
-        match self {
-            Refusal::TooFewBytes => 1,
-            Refusal::Version => 2,
-            Refusal::ExtentTooSmall => 3,
-            Refusal::ExtentsDisagree => 4,
-            Refusal::Bins => 5,
-            Refusal::Cells => 6,
-            Refusal::Channels => 7,
-            Refusal::SectionTooLong => 8,
-            Refusal::BlockHeadCut => 9,
-            Refusal::BlockDataCut => 10,
-            Refusal::DataCut => 11,
-            Refusal::Key => 12,
-            Refusal::RecordShort => 13,
-            Refusal::TextWithoutZero => 14,
-            Refusal::TextUnfit => 15,
-            Refusal::NoSuchCellOrRow => 16,
-            Refusal::WrongLengthOrCount => 17,
-            Refusal::NoSuchField => 18,
-            Refusal::Level => 19,
-            Refusal::LevelTooLow => 20,
-            Refusal::SteeringField => 21,
-            Refusal::ListOrTableTooShort => 22,
-            Refusal::NoFile => 31,
-            Refusal::Capacity => 32,
-            Refusal::VersionLacksIt => 33,
-            Refusal::NoSuchBlock => 34,
-            Refusal::NothingToRaise => 35,
-            Refusal::Gap => 36,
-            Refusal::LayoutUnknown => 37,
-            Refusal::CellCount => 38,
-        }
+        self as u8
     }
 
     /// The layer at which judging a file or reading a block refuses so.
     pub fn layer(self) -> Layer
         ensures { result ≡ layer_of self }
     {
-        match self.number() {
-            1 | 2 | 11 => Layer::File,
-            3..=8 => Layer::Header,
-            9 | 10 => Layer::Section,
-            12..=14 => Layer::Block,
+        match self {
+            Refusal::TooFewBytes | Refusal::Version | Refusal::DataCut => Layer::File,
+            Refusal::ExtentTooSmall | Refusal::ExtentsDisagree => Layer::Header,
+            Refusal::Bins | Refusal::Cells | Refusal::Channels => Layer::Header,
+            Refusal::SectionTooLong => Layer::Header,
+            Refusal::BlockHeadCut | Refusal::BlockDataCut => Layer::Section,
+            Refusal::Key | Refusal::RecordShort | Refusal::TextWithoutZero => Layer::Block,
             _ => Layer::Call,
         }
     }
@@ -181,13 +152,7 @@ impl Layer {
     pub fn number(self) -> u8
         ensures { result ≡ layer_number self }
     {
-        match self {
-            Layer::File => 1,
-            Layer::Header => 2,
-            Layer::Section => 3,
-            Layer::Block => 4,
-            Layer::Call => 5,
-        }
+        self as u8
     }
 
     /// The layer's name in plain words.
