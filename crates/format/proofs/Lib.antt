@@ -1,4 +1,5 @@
 pub mod Walk
+pub mod Turns
 pub mod InOrder
 pub mod Slots
 pub mod Pieces

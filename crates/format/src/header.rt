@@ -1,10 +1,10 @@
 //! The header: where it ends, where the data begin, and what is asked of version and extents.
-ghost use Rattle.std.specs.Prelude.{◌≡◌, ◌^◌, ◌<◌, ◌≤◌};
+ghost use Rattle.std.specs.Prelude.{◌≡◌, ◌^◌, ◌<◌};
 ghost use Rattle.format.specs.Checks.{first_of, all_of};
 ghost use Rattle.format.specs.Header.{version as version_of, header_end, data_start, section_size};
 ghost use Rattle.format.specs.Judging.{longer, versioned, opening, covers, covering, agrees, agreeing};
 
-use buffers::{int16_at, int32_at, word16_at, word32_at};
+use buffers::Word;
 use faults::{Fault, Refusal};
 
 /// Where the header of a file of that version ends.
@@ -18,25 +18,6 @@ pub fn header_end(version: u16) -> usize
         4 => 72,
         5 => 100,
         _ => 104,
-    }
-}
-
-/// Where the data begin, by the first extent.
-pub(crate) fn data_start(bytes: &[u8]) -> usize
-    ensures value { result ≡ data_start bytes.now }
-    ensures small { result < 2 ^ 33 }
-{
-    10 + word32_at(bytes, 6) as usize
-}
-
-/// The size of the section of blocks; 0 below version 6.
-pub(crate) fn section_size(bytes: &[u8], version: u16) -> usize
-    ensures { result ≡ section_size bytes.now version }
-{
-    if version < 6 {
-        0
-    } else {
-        word32_at(bytes, 100) as usize
     }
 }
 
@@ -55,7 +36,7 @@ fn check_longer(bytes: &[u8], end: usize) -> Result<(), Fault>
 fn check_version(bytes: &[u8]) -> Result<(), Fault>
     ensures { result ≡ versioned bytes.now }
 {
-    let version = int16_at(bytes, 0);
+    let version = i16::at(bytes, 0);
     if version >= 1 && version <= 32 {
         Ok(())
     } else {
@@ -69,55 +50,115 @@ pub(crate) fn check_opening(bytes: &[u8]) -> Result<u16, Fault>
 {
     check_longer(bytes, 10)?;
     check_version(bytes)?;
-    let version = word16_at(bytes, 0);
+    let version = u16::at(bytes, 0);
     check_longer(bytes, header_end(version))?;
     Ok(version)
 }
 
-/// Refuses 3 if the extent of that number, at that place, ends before the header does.
-fn check_covers(bytes: &[u8], version: u16, number: u16, place: usize) -> Result<(), Fault>
-    requires { place ≤ 96 }
-    ensures { result ≡ covers bytes.now version number place }
-{
-    let least = header_end(version).saturating_sub(place + 4) as i64;
-    if version < number || int32_at(bytes, place) as i64 >= least {
-        Ok(())
-    } else {
-        Err(Fault::at(Refusal::ExtentTooSmall, place))
+/// An extent, by the version from which files have it, and where it stands.
+#[derive(Clone, Copy)]
+struct Extent {
+    number: u16,
+    place: u8,
+}
+
+/// Extents 1 to 5.
+const EXTENTS: [Extent; 5] = [
+    Extent {
+        number: 1,
+        place: 6,
+    },
+    Extent {
+        number: 2,
+        place: 12,
+    },
+    Extent {
+        number: 3,
+        place: 20,
+    },
+    Extent {
+        number: 4,
+        place: 68,
+    },
+    Extent {
+        number: 5,
+        place: 96,
+    },
+];
+
+/// The bytes of a file, read as those of one version.
+#[derive(Clone, Copy)]
+pub(crate) struct Header<'a> {
+    pub(crate) bytes: &'a [u8],
+    pub(crate) version: u16,
+}
+
+impl<'a> Header<'a> {
+    /// Where the data begin, by the first extent.
+    pub(crate) fn data_start(&self) -> usize
+        ensures value { result ≡ data_start self.now.bytes.now }
+        ensures small { result < 2 ^ 33 }
+    {
+        10 + u32::at(self.bytes, 6) as usize
     }
-}
 
-/// Refuses 3 at the first extent that ends before the header does.
-pub(crate) fn check_covering(bytes: &[u8], version: u16) -> Result<(), Fault>
-    ensures { result ≡ all_of (covering bytes.now version) }
-{
-    check_covers(bytes, version, 1, 6)?;
-    check_covers(bytes, version, 2, 12)?;
-    check_covers(bytes, version, 3, 20)?;
-    check_covers(bytes, version, 4, 68)?;
-    check_covers(bytes, version, 5, 96)?;
-    Ok(())
-}
-
-/// Refuses 4 if the extent of that number, at that place, leads elsewhere than the first.
-fn check_agrees(bytes: &[u8], version: u16, number: u16, place: usize) -> Result<(), Fault>
-    requires { place ≤ 96 }
-    ensures { result ≡ agrees bytes.now version number place }
-{
-    if version < number || place + 4 + word32_at(bytes, place) as usize == data_start(bytes) {
-        Ok(())
-    } else {
-        Err(Fault::at(Refusal::ExtentsDisagree, place))
+    /// The size of the section of blocks; 0 below version 6.
+    pub(crate) fn section_size(&self) -> usize
+        ensures value { result ≡ section_size self.now.bytes.now self.now.version }
+        ensures small { result < 2 ^ 32 }
+    {
+        if self.version < 6 {
+            0
+        } else {
+            u32::at(self.bytes, 100) as usize
+        }
     }
-}
 
-/// Refuses 4 at the first extent that leads elsewhere than extent 1.
-pub(crate) fn check_agreeing(bytes: &[u8], version: u16) -> Result<(), Fault>
-    ensures { result ≡ all_of (agreeing bytes.now version) }
-{
-    check_agrees(bytes, version, 2, 12)?;
-    check_agrees(bytes, version, 3, 20)?;
-    check_agrees(bytes, version, 4, 68)?;
-    check_agrees(bytes, version, 5, 96)?;
-    Ok(())
+    /// Refuses 3 if the extent ends before the header does.
+    fn check_covers(&self, extent: Extent) -> Result<(), Fault>
+        ensures { result ≡ covers self.now.bytes.now self.now.version extent.number extent.place }
+    {
+        let number = extent.number;
+        let place = usize::from(extent.place);
+        let least = header_end(self.version).saturating_sub(place + 4) as i64;
+        if self.version < number || i32::at(self.bytes, place) as i64 >= least {
+            Ok(())
+        } else {
+            Err(Fault::at(Refusal::ExtentTooSmall, place))
+        }
+    }
+
+    /// Refuses 3 at the first extent that ends before the header does.
+    pub(crate) fn check_covering(&self) -> Result<(), Fault>
+        ensures { result ≡ all_of (covering self.now.bytes.now self.now.version) }
+    {
+        for extent in EXTENTS {
+            self.check_covers(extent)?;
+        }
+        Ok(())
+    }
+
+    /// Refuses 4 if the extent leads elsewhere than the first.
+    fn check_agrees(&self, extent: Extent) -> Result<(), Fault>
+        ensures { result ≡ agrees self.now.bytes.now self.now.version extent.number extent.place }
+    {
+        let number = extent.number;
+        let place = usize::from(extent.place);
+        let end = place + 4;
+        if self.version < number || end + u32::at(self.bytes, place) as usize == self.data_start() {
+            Ok(())
+        } else {
+            Err(Fault::at(Refusal::ExtentsDisagree, place))
+        }
+    }
+
+    /// Refuses 4 at the first extent that leads elsewhere than extent 1.
+    pub(crate) fn check_agreeing(&self) -> Result<(), Fault>
+        ensures { result ≡ all_of (agreeing self.now.bytes.now self.now.version) }
+    {
+        for extent in &EXTENTS[1..] {
+            self.check_agrees(*extent)?;
+        }
+        Ok(())
+    }
 }

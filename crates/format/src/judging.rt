@@ -1,14 +1,13 @@
 //! Judging a file: the checks in their order, and the layout of a file that passes them all.
-ghost use Rattle.std.specs.Prelude.{◌≡◌, ◌≤◌, MatchResult};
+ghost use Rattle.std.specs.Prelude.{◌≡◌, MatchResult};
 ghost use Rattle.format.specs.Checks.{all_of};
 ghost use Rattle.format.specs.Changes.{WritingChanges};
 ghost use Rattle.format.specs.Content.{content, WritingOf, Unwritten};
 ghost use Rattle.format.specs.Judging.{holding, blocks_of, judged, judged_in_groups, FirstRefusal, Filled, CutThere};
-ghost use Rattle.format.specs.Sizes.{sizes_of};
 
-use crate::header::{check_agreeing, check_covering, check_opening, data_start, section_size};
+use crate::header::{Header, check_opening};
 use crate::section::count_blocks;
-use crate::sizes::{Sizes, check_sizes};
+use crate::sizes::Sizes;
 use faults::{Fault, Refusal};
 
 /// Where the parts of an accepted file stand.
@@ -26,29 +25,30 @@ pub struct Layout {
     pub blocks: usize,
 }
 
-/// Refuses 11 unless the cells lie within the file, then 8 unless the section of blocks lies before them.
-fn check_holding(bytes: &[u8], version: u16, sizes: Sizes) -> Result<(), Fault>
-    requires { (sizes ≡ sizes_of bytes.now version) × ((sizes.ranges ≤ 8192) × (sizes.bins ≤ 32768)) }
-    ensures { result ≡ all_of (holding bytes.now version) }
-{
-    let start = data_start(bytes);
-    if start + sizes.cells_size() > bytes.len() {
-        return Err(Fault::at(Refusal::DataCut, start));
+impl<'a> Header<'a> {
+    /// Refuses 11 unless the cells lie within the file, then 8 unless the section of blocks lies before them.
+    fn check_holding(&self) -> Result<(), Fault>
+        ensures { result ≡ all_of (holding self.now.bytes.now self.now.version) }
+    {
+        let start = self.data_start();
+        if start as u128 + self.sizes().cells_size() > self.bytes.len() as u128 {
+            return Err(Fault::at(Refusal::DataCut, start));
+        }
+        if self.version >= 6 && 104 + self.section_size() > start {
+            return Err(Fault::at(Refusal::SectionTooLong, 100));
+        }
+        Ok(())
     }
-    if version >= 6 && 104 + section_size(bytes, version) > start {
-        return Err(Fault::at(Refusal::SectionTooLong, 100));
-    }
-    Ok(())
-}
 
-/// The count of the blocks that fill the section; refuses 9 and 10 at the first that does not fit.
-fn check_filling(bytes: &[u8], version: u16) -> Result<usize, Fault>
-    ensures { result ≡ blocks_of bytes.now version }
-{
-    if version < 6 {
-        Ok(0)
-    } else {
-        count_blocks(bytes, 104 + section_size(bytes, version))
+    /// The count of the blocks that fill the section; refuses 9 and 10 at the first that does not fit.
+    fn check_filling(&self) -> Result<usize, Fault>
+        ensures { result ≡ blocks_of self.now.bytes.now self.now.version }
+    {
+        if self.version < 6 {
+            Ok(0)
+        } else {
+            count_blocks(self.bytes, 104 + self.section_size())
+        }
     }
 }
 
@@ -57,16 +57,17 @@ fn run_checks(bytes: &[u8]) -> Result<Layout, Fault>
     ensures { result ≡ judged_in_groups bytes.now }
 {
     let version = check_opening(bytes)?;
-    check_covering(bytes, version)?;
-    check_agreeing(bytes, version)?;
-    let sizes = check_sizes(bytes, version)?;
-    check_holding(bytes, version, sizes)?;
-    let blocks = check_filling(bytes, version)?;
+    let header = Header { bytes, version };
+    header.check_covering()?;
+    header.check_agreeing()?;
+    let sizes = header.check_sizes()?;
+    header.check_holding()?;
+    let blocks = header.check_filling()?;
     Ok(Layout {
         version,
-        start: data_start(bytes),
+        start: header.data_start(),
         sizes,
-        section: section_size(bytes, version),
+        section: header.section_size(),
         blocks,
     })
 }

@@ -2,7 +2,7 @@
 ghost use Rattle.std.specs.Prelude.{◌≡◌, ◌+◌, ◌<◌, ◌≤◌, IfOk};
 ghost use Rattle.format.specs.Section.{next_block, section_blocks};
 
-use buffers::word32_at;
+use buffers::Word;
 use faults::{Fault, Refusal};
 
 /// Where the block of that number ends, which begins at `at` in a section that ends at `end`; refuses 9 if its key
@@ -16,7 +16,7 @@ fn end_of_block(bytes: &[u8], end: usize, at: usize, number: usize) -> Result<us
     if left < 8 {
         return Err(Fault::in_block(Refusal::BlockHeadCut, number, at));
     }
-    let size = word32_at(bytes, at + 4) as usize;
+    let size = u32::at(bytes, at + 4) as usize;
     if size > left - 8 {
         return Err(Fault::in_block(Refusal::BlockDataCut, number, at + 4));
     }
@@ -28,6 +28,7 @@ pub(crate) fn count_blocks(bytes: &[u8], end: usize) -> Result<usize, Fault>
     requires { 104 ≤ end }
     ensures { result ≡ section_blocks bytes.now end }
 {
+    // The walk goes from place to place, and each step may refuse: a count beside it is plainer than an iterator of results.
     let mut at = 104;
     let mut count = 0;
     while at < end {

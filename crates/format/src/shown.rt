@@ -1,9 +1,23 @@
 //! A layout in plain words.
-ghost use Rattle.std.specs.Prelude.{Some};
-ghost use Rattle.format.specs.Shown.{count_text, layout_text};
+ghost use Rattle.std.specs.Prelude.{◌≡◌, Some};
+ghost use Rattle.format.specs.Shown.{count_text, quality_text, layout_text};
 
 use crate::judging::Layout;
+use crate::sizes::Sizes;
 use std::fmt;
+
+impl Sizes {
+    /// Whether there is a quality row, in words.
+    pub fn quality_word(&self) -> &'static str
+        ensures { result.now ≡ quality_text self.now.quality }
+    {
+        if self.quality {
+            "quality"
+        } else {
+            "no quality"
+        }
+    }
+}
 
 /// A count of things, which are named in the singular.
 #[derive(Drop)]
@@ -27,11 +41,7 @@ impl fmt::Display for Layout {
         let version = self.version;
         let cells = Counted(self.sizes.ranges as usize, "range cell");
         let bins = Counted(self.sizes.bins as usize, "Doppler bin");
-        let quality = if self.sizes.quality {
-            "quality"
-        } else {
-            "no quality"
-        };
+        let quality = self.sizes.quality_word();
         let start = self.start;
         let blocks = Counted(self.blocks, "block");
         write!(

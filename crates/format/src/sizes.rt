@@ -1,11 +1,12 @@
 //! The sizes of a file's data, and what is asked of them.
-ghost use Rattle.std.specs.Prelude.{◌≡◌, ◌^◌, ◌<◌, ◌≤◌, IfOk};
+ghost use Rattle.std.specs.Prelude.{◌≡◌, IfOk};
 ghost use Rattle.format.specs.Checks.{first_of};
 ghost use Rattle.format.specs.Judging.{sizing};
 ghost use Rattle.format.specs.Rows.{bin_width, cells_size};
 ghost use Rattle.format.specs.Sizes.{has_quality, sizes_of};
 
-use buffers::{int16_at, word32_at};
+use crate::header::Header;
+use buffers::Word;
 use faults::{Fault, Refusal};
 
 /// How many range cells, bins and channels the data have.
@@ -25,12 +26,10 @@ pub struct Sizes {
 
 impl Sizes {
     /// The bytes of all cells.
-    pub(crate) fn cells_size(&self) -> usize
-        requires { (self.now.ranges ≤ 8192) × (self.now.bins ≤ 32768) }
-        ensures value { result ≡ cells_size self.now }
-        ensures small { result < 2 ^ 34 }
+    pub(crate) fn cells_size(&self) -> u128
+        ensures { result ≡ cells_size self.now }
     {
-        self.ranges as usize * self.bins as usize * bin_width(self.quality)
+        self.ranges as u128 * self.bins as u128 * bin_width(self.quality) as u128
     }
 }
 
@@ -41,43 +40,48 @@ pub fn bin_width(quality: bool) -> usize
     if quality { 40 } else { 36 }
 }
 
-/// Whether each cell has a quality row.
-fn has_quality(bytes: &[u8], version: u16) -> bool
-    ensures { result ≡ has_quality bytes.now version }
-{
-    version >= 2 && int16_at(bytes, 10) >= 2
-}
+impl<'a> Header<'a> {
+    /// Whether each cell has a quality row.
+    fn has_quality(&self) -> bool
+        ensures { result ≡ has_quality self.now.bytes.now self.now.version }
+    {
+        self.version >= 2 && i16::at(self.bytes, 10) >= 2
+    }
 
-/// The sizes that the header gives, or those assumed for an early version.
-pub(crate) fn read_sizes(bytes: &[u8], version: u16) -> Sizes
-    ensures { result ≡ sizes_of bytes.now version }
-{
-    let early = version < 4;
-    Sizes {
-        ranges: if early { 31 } else { word32_at(bytes, 56) },
-        bins: if early { 512 } else { word32_at(bytes, 52) },
-        channels: if version < 5 { 3 } else { word32_at(bytes, 88) },
-        first: if early { 1 } else { word32_at(bytes, 60) },
-        quality: has_quality(bytes, version),
+    /// The sizes that the header gives, or those assumed for an early version.
+    pub(crate) fn sizes(&self) -> Sizes
+        ensures { result ≡ sizes_of self.now.bytes.now self.now.version }
+    {
+        let bytes = self.bytes;
+        let early = self.version < 4;
+        Sizes {
+            ranges: if early { 31 } else { u32::at(bytes, 56) },
+            bins: if early { 512 } else { u32::at(bytes, 52) },
+            channels: if self.version < 5 {
+                3
+            } else {
+                u32::at(bytes, 88)
+            },
+            first: if early { 1 } else { u32::at(bytes, 60) },
+            quality: self.has_quality(),
+        }
     }
-}
 
-/// Refuses 5, 6 and 7 for bins, cells and channels out of range.
-pub(crate) fn check_sizes(bytes: &[u8], version: u16) -> Result<Sizes, Fault>
-    ensures exact { result ≡ first_of (sizing bytes.now version) (sizes_of bytes.now version) }
-    ensures same { IfOk result (λ s. s ≡ sizes_of bytes.now version) }
-    ensures cells { IfOk result (λ s. s.ranges ≤ 8192) }
-    ensures bins { IfOk result (λ s. s.bins ≤ 32768) }
-{
-    let sizes = read_sizes(bytes, version);
-    if version >= 4 && (sizes.bins < 1 || sizes.bins > 32768) {
-        return Err(Fault::at(Refusal::Bins, 52));
+    /// Refuses 5, 6 and 7 for bins, cells and channels out of range.
+    pub(crate) fn check_sizes(&self) -> Result<Sizes, Fault>
+        ensures exact { result ≡ first_of (sizing self.now.bytes.now self.now.version) (sizes_of self.now.bytes.now self.now.version) }
+        ensures same { IfOk result (λ s. s ≡ sizes_of self.now.bytes.now self.now.version) }
+    {
+        let sizes = self.sizes();
+        if self.version >= 4 && (sizes.bins < 1 || sizes.bins > 32768) {
+            return Err(Fault::at(Refusal::Bins, 52));
+        }
+        if self.version >= 4 && (sizes.ranges < 1 || sizes.ranges > 8192) {
+            return Err(Fault::at(Refusal::Cells, 56));
+        }
+        if self.version >= 5 && sizes.channels != 3 {
+            return Err(Fault::at(Refusal::Channels, 88));
+        }
+        Ok(sizes)
     }
-    if version >= 4 && (sizes.ranges < 1 || sizes.ranges > 8192) {
-        return Err(Fault::at(Refusal::Cells, 56));
-    }
-    if version >= 5 && sizes.channels != 3 {
-        return Err(Fault::at(Refusal::Channels, 88));
-    }
-    Ok(sizes)
 }
