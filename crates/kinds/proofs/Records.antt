@@ -231,43 +231,36 @@ filled_is (p ∷ ps) (x ∷ xs) b at f h =
     filled_is ps xs (written b at s) (at + part_size p) g.1 (omega arith)
     ∙ written_twice b at (part_size p) s (packed ps xs) l (omega arith)
 
--- what writing a record answers and leaves, where it takes no text: there is room, or there is not
-record_put : (ps : List Part) (xs text before after : List ℕ) (n : ℕ) → fit ps xs ≡ true → length text ≤ 0 → n ≡ total ps
-    → after ≡ cond (leb n (length before)) (written before 0 (packed ps xs)) before
-    → (put_answer (record_writes ps xs text) (length before) ≡ cond (leb n (length before)) (Ok n) (Err (fault ListOrTableTooShort n)))
-    × (after ≡ put_buffer (record_writes ps xs text) before)
-record_put ps xs text before after n f none is e =
-    let o : record_writes ps xs text ≡ bytes (packed ps xs) = cond-true _ _ _ f ∙ cond-false _ _ _ (le-ltb 0 (length text) none) in
-    let l : length (packed ps xs) ≡ n = packed_long ps xs f ∙ sym is in (
-      ap (λ (x : Output). put_answer x (length before)) o
-          ∙ ap (λ (x : ℕ). cond (leb x (length before)) (Ok x) (Err (fault ListOrTableTooShort x))) l,
-      e ∙ sym (ap (λ (x : Output). put_buffer x before) o ∙ ap (λ (x : ℕ). cond (leb x (length before)) (written before 0 (packed ps xs)) before) l),
-    )
+-- the same where there is room for them
+filled_or_not : (ps : List Part) (xs b : List ℕ) → fit ps xs ≡ true
+    → cond (leb (total ps) (length b)) (filled ps xs b 0) b ≡ cond (leb (total ps) (length b)) (written b 0 (packed ps xs)) b
+filled_or_not ps xs b f =
+    ⊎_elim
+    (λ (l : length b < total ps). let t = lt-leb (total ps) (length b) l in cond-false _ _ _ t ∙ sym (cond-false _ _ _ t))
+    (λ (l : total ps ≤ length b).
+    let t = le-leb (total ps) (length b) l in
+    cond-true _ _ _ t ∙ filled_is ps xs b 0 f (omega arith) ∙ sym (cond-true _ _ _ t))
+    (cases_lt (length b) (total ps))
 
--- the record was written
-pub record_wrote : (ps : List Part) (xs text before after : List ℕ) (n : ℕ) → fit ps xs ≡ true → length text ≤ 0 → n ≡ total ps → leb n (length before) ≡ true
-    → after ≡ cond (leb n (length before)) (written before 0 (packed ps xs)) before
-    → (Ok n ≡ put_answer (record_writes ps xs text) (length before)) × (after ≡ put_buffer (record_writes ps xs text) before)
-record_wrote ps xs text before after n f none is room e =
-    let p = record_put ps xs text before after n f none is e in
-    (sym (p.0 ∙ cond-true _ _ _ room), p.1)
+-- what writing a record answers and leaves, where it takes no text and its numbers were written one behind the other if there was room
+module _ (ps : List Part) (xs text before after : List ℕ) (f : fit ps xs ≡ true) (none : length text ≤ 0) (e : after ≡ cond (leb (total ps) (length before)) (filled ps xs before 0) before) where
+  put : (put_answer (record_writes ps xs text) (length before) ≡ cond (leb (total ps) (length before)) (Ok (total ps)) (Err (fault ListOrTableTooShort (total ps))))
+      × (after ≡ put_buffer (record_writes ps xs text) before)
+  put =
+      let o : record_writes ps xs text ≡ bytes (packed ps xs) = cond-true _ _ _ f ∙ cond-false _ _ _ (le-ltb 0 (length text) none) in
+      let l : length (packed ps xs) ≡ total ps = packed_long ps xs f in (
+        ap (λ (x : Output). put_answer x (length before)) o
+            ∙ ap (λ (x : ℕ). cond (leb x (length before)) (Ok x) (Err (fault ListOrTableTooShort x))) l,
+        e ∙ filled_or_not ps xs before f ∙ sym (ap (λ (x : Output). put_buffer x before) o ∙ ap (λ (x : ℕ). cond (leb x (length before)) (written before 0 (packed ps xs)) before) l),
+      )
 
--- there was no room for it
-pub record_short : (ps : List Part) (xs text before after : List ℕ) (n : ℕ) → fit ps xs ≡ true → length text ≤ 0 → n ≡ total ps → leb n (length before) ≡ false
-    → after ≡ cond (leb n (length before)) (written before 0 (packed ps xs)) before
-    → (Err (fault ListOrTableTooShort n) ≡ put_answer (record_writes ps xs text) (length before)) × (after ≡ put_buffer (record_writes ps xs text) before)
-record_short ps xs text before after n f none is room e =
-    let p = record_put ps xs text before after n f none is e in
-    (sym (p.0 ∙ cond-false _ _ _ room), p.1)
+  -- there was room
+  pub record_wrote : leb (total ps) (length before) ≡ true → (Ok (total ps) ≡ put_answer (record_writes ps xs text) (length before)) × (after ≡ put_buffer (record_writes ps xs text) before)
+  record_wrote room = (sym (put.0 ∙ cond-true _ _ _ room), put.1)
 
--- numbers that were written one behind the other, where there was room, are the record
-pub record_filled : (ps : List Part) (xs before after : List ℕ) (n : ℕ) → fit ps xs ≡ true → n ≡ total ps → n ≤ length before → after ≡ filled ps xs before 0
-    → after ≡ cond (leb n (length before)) (written before 0 (packed ps xs)) before
-record_filled ps xs before after n f is room e =
-    e ∙ filled_is ps xs before 0 f (omega arith) ∙ sym (cond-true _ _ _ (le-leb n (length before) room))
-
-pub record_not_filled : (ps : List Part) (xs before : List ℕ) (n : ℕ) → length before < n → before ≡ cond (leb n (length before)) (written before 0 (packed ps xs)) before
-record_not_filled ps xs before n short = sym (cond-false _ _ _ (lt-leb n (length before) short))
+  -- there was none
+  pub record_short : leb (total ps) (length before) ≡ false → (Err (fault ListOrTableTooShort (total ps)) ≡ put_answer (record_writes ps xs text) (length before)) × (after ≡ put_buffer (record_writes ps xs text) before)
+  record_short room = (sym (put.0 ∙ cond-false _ _ _ room), put.1)
 
 -- a signed 16-bit number fits its part
 pub signed_fits : (z : ℤ) → SFits w16 z → ltb (folded z) 65536 ≡ true

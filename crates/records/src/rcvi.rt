@@ -6,7 +6,7 @@ ghost use Rattle.records.specs.Rcvi.{rcvi_parts, rcvi_numbers, rcvi_bytes, rcvi_
 ghost use Rattle.records.specs.Firmware.{rcvi_keeps};
 ghost use Rattle.std.proofs.Common.{rules};
 
-use buffers::{word32_at, word64_at, write_bytes, write_word32, write_word64, zero_bytes};
+use buffers::{Word, write_bytes, write_word, zero_bytes};
 use faults::{Fault, Refusal};
 use kinds::{Kind, Reading, check_record, first_zero};
 
@@ -46,9 +46,9 @@ fn put(value: Rcvi, text: &[u8], out: &mut [u8]) -> bool
     if out.len() < 48 {
         return false;
     }
-    let _ = write_word32(out, 0, value.receiver);
-    let _ = write_word32(out, 4, value.antenna);
-    let _ = write_word64(out, 8, value.gain);
+    let _ = write_word(out, 0, value.receiver);
+    let _ = write_word(out, 4, value.antenna);
+    let _ = write_word(out, 8, value.gain);
     let _ = write_bytes(out, 16, text);
     let _ = zero_bytes(out, 16 + text.len(), 32 - text.len());
     true
@@ -74,9 +74,9 @@ impl Kind for Rcvi {
         let length = first_zero(&bytes[16..48]);
         if length < 32 {
             let record = Rcvi {
-                receiver: word32_at(bytes, 0),
-                antenna: word32_at(bytes, 4),
-                gain: word64_at(bytes, 8),
+                receiver: u32::at(bytes, 0),
+                antenna: u32::at(bytes, 4),
+                gain: u64::at(bytes, 8),
             };
             Ok(Reading {
                 record,

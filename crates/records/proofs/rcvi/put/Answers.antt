@@ -11,8 +11,8 @@ returns c =
     let text = c.args.text.now in
     let out = c.args.out.now in
     let fits : fit rcvi_parts ns ≡ true = search rules in
-    let head : c.write_word64.new.buf ≡ filled rcvi_parts ns out 0 = search rules in
-    let texts : c.write_bytes.new.buf ≡ written c.write_word64.new.buf 16 text = search rules in
+    let head : c.write_word-3.new.buf ≡ filled rcvi_parts ns out 0 = search rules in
+    let texts : c.write_bytes.new.buf ≡ written c.write_word-3.new.buf 16 text = search rules in
     let zeros : c.zero_bytes.new.buf ≡ written c.write_bytes.new.buf (16 + length text) (replicate (32 - length text) 0) = search rules in
     let all : c.zero_bytes.new.buf ≡ written (written (filled rcvi_parts ns out 0) 16 text) (16 + length text) (replicate (32 - length text) 0) = cc in
     record {
