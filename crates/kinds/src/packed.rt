@@ -93,7 +93,7 @@ impl<R: Packed> Kind for R {
     }
 
     fn write(value: R, text: &[u8], out: &mut [u8]) -> Result<usize, Fault> {
-        let size = measure_record(value.size(), text)?;
+        let size = Self::measure(value, text)?;
         if !value.pack(out) {
             return Err(Fault::at(Refusal::ListOrTableTooShort, size));
         }

@@ -5,7 +5,7 @@ ghost use Rattle.texts.specs.City.{city_kind};
 
 use crate::text::{Label, Text};
 
-/// What a CITY block is.
+/// The kind of a CITY block.
 pub type City = Text<CityLabel>;
 
 /// The label of a CITY block.

@@ -5,7 +5,7 @@ ghost use Rattle.texts.specs.Sitd.{sitd_kind};
 
 use crate::text::{Label, Text};
 
-/// What a SITD block is.
+/// The kind of a SITD block.
 pub type Sitd = Text<SitdLabel>;
 
 /// The label of a SITD block.

@@ -5,7 +5,7 @@ ghost use Rattle.texts.specs.Tool.{tool_kind};
 
 use crate::text::{Label, Text};
 
-/// What a TOOL block is.
+/// The kind of a TOOL block.
 pub type Tool = Text<ToolLabel>;
 
 /// The label of a TOOL block.

@@ -5,7 +5,7 @@ ghost use Rattle.texts.specs.Zone.{zone_kind};
 
 use crate::text::{Label, Text};
 
-/// What a ZONE block is.
+/// The kind of a ZONE block.
 pub type Zone = Text<ZoneLabel>;
 
 /// The label of a ZONE block.

@@ -1,4 +1,4 @@
-use Rattle.std.proofs.Common.{sym, ap, ◌∙◌}
+use Rattle.std.proofs.Common.{◌≡◌, sym, ◌∙◌, subst}
 use Rattle.kinds.specs.Kind.{measured}
 use Rattle.kinds.proofs.Records.{record_measured}
 use Rattle.kinds.proofs.packed.AnyKind.measure.Goals as goal
@@ -7,6 +7,5 @@ pub returns : goal.returns
 returns g c =
     let xs = g.R.Packed.numbers c.args.value in
     let text = c.args.text.now in
-    c.measure_record.ensures
-    ∙ record_measured g.R.Packed.parts xs text c.size.result c.size.ensures.fits c.size.ensures.exact
-    ∙ ap (λ k. measured (k.writes xs text)) (sym g.met.R.Packed.packs)
+    subst (λ k. c.measure_record.result ≡ measured (k.writes xs text)) (sym g.met.R.Packed.packs)
+    (c.measure_record.ensures ∙ record_measured g.R.Packed.parts xs text c.size.result c.size.ensures.fits c.size.ensures.exact)

@@ -1,4 +1,4 @@
-use Rattle.std.proofs.Common.{[], sym, ap, ◌∙◌, rules}
+use Rattle.std.proofs.Common.{[], sym, ap, rules}
 use Rattle.kinds.specs.Kind.{put_buffer}
 use Rattle.texts.proofs.text.TextKind.write.Goals as goal
 
