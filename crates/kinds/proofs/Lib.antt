@@ -1,3 +1,5 @@
+pub mod Writing
 pub mod Records
 pub mod Texts
+pub mod Fields
 pub mod Laws

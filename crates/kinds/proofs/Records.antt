@@ -1,7 +1,7 @@
 -- Packed records keep the conditions of a kind, whatever their parts.
-use Rattle.std.proofs.Common.{◌≡◌, ℕ, suc, ◌+◌, ◌-◌, ◌*◌, ◌/◌, ◌%◌, ◌<◌, ◌≤◌, Bool, true, false, cond, eqb, ltb, leb, ◌⊎◌, List, [], ◌∷◌, ◌++◌, length, get_or, take, drop, ℤ, pos, negsuc, Ok, Err, Result, sym, refl, ap, ◌∙◌, subst, inl, ⊎_elim, append_assoc, append-nil, arith, w16, SFits, to_z, rules}
+use Rattle.std.proofs.Common.{◌≡◌, ℕ, suc, ◌+◌, ◌-◌, ◌*◌, ◌/◌, ◌%◌, ◌<◌, ◌≤◌, Bool, true, false, cond, eqb, ltb, leb, ◌⊎◌, List, [], ◌∷◌, ◌++◌, length, get_or, take, drop, Ok, Err, Result, sym, refl, ap, ◌∙◌, subst, inl, ⊎_elim, append_assoc, append-nil, arith, w16, to_z, rules}
 use Rattle.std.proofs.lemmas.List.{same_lists, places, length-append, length-take, get_or-take, nil_from_length}
-use Rattle.std.proofs.lemmas.Bool.{cases_lt, lt-ltb, le-ltb, le-leb, lt-leb, ltb-true, and_parts, cases_Bool, cases_eq, eq-eqb, ne_eqb, cond-true, cond-false, cond_both, false≢true}
+use Rattle.std.proofs.lemmas.Bool.{leb-true, leb-false, cases_lt, lt-ltb, le-ltb, ltb-true, and_parts, cases_Bool, cases_eq, eq-eqb, ne_eqb, cond-true, cond-false, cond_both, false≢true}
 use Rattle.buffers.proofs.Encoded.{be-length, reads, goes_on}
 use Rattle.buffers.specs.Moves.{written}
 use Rattle.buffers.specs.Words.{Width, one, two, four, eight, size, limit, word}
@@ -9,7 +9,8 @@ use Rattle.faults.specs.declared.fault.Fault.{Fault}
 use Rattle.faults.specs.declared.refusal.Refusal.{Refusal}
 use Rattle.faults.specs.declared.refusal.Refusal.TheVariants.{RecordShort, TextWithoutZero, TextUnfit, ListOrTableTooShort}
 use Rattle.faults.specs.Faults.{fault}
-use Rattle.kinds.specs.Kind.{accepted, refused, Output, bytes, declined, Steady, Returns, Keeps, measured, put_answer, put_buffer}
+use Rattle.kinds.specs.Kind.{accepted, refused, bytes, declined, Steady, Returns, Keeps, measured, put_answer, put_buffer}
+use Rattle.kinds.proofs.Writing.{measured_is, wrote, no_room}
 use Rattle.kinds.specs.Packed.{Part, plain, signed, folded, pattern_of, part_size, part_at, part_fits, part_bytes, total, values, fit, packed, filled, record_reads, record_writes, record_kind, textless}
 
 -- the two lists have the same bytes below n
@@ -231,69 +232,30 @@ filled_is (p ∷ ps) (x ∷ xs) b at f h =
     filled_is ps xs (written b at s) (at + part_size p) g.1 (omega arith)
     ∙ written_twice b at (part_size p) s (packed ps xs) l (omega arith)
 
--- what writing a record answers and leaves, where it takes no text: there is room, or there is not
-record_put : (ps : List Part) (xs text before after : List ℕ) (n : ℕ) → fit ps xs ≡ true → length text ≤ 0 → n ≡ total ps
-    → after ≡ cond (leb n (length before)) (written before 0 (packed ps xs)) before
-    → (put_answer (record_writes ps xs text) (length before) ≡ cond (leb n (length before)) (Ok n) (Err (fault ListOrTableTooShort n)))
-    × (after ≡ put_buffer (record_writes ps xs text) before)
-record_put ps xs text before after n f none is e =
-    let o : record_writes ps xs text ≡ bytes (packed ps xs) = cond-true _ _ _ f ∙ cond-false _ _ _ (le-ltb 0 (length text) none) in
-    let l : length (packed ps xs) ≡ n = packed_long ps xs f ∙ sym is in (
-      ap (λ (x : Output). put_answer x (length before)) o
-          ∙ ap (λ (x : ℕ). cond (leb x (length before)) (Ok x) (Err (fault ListOrTableTooShort x))) l,
-      e ∙ sym (ap (λ (x : Output). put_buffer x before) o ∙ ap (λ (x : ℕ). cond (leb x (length before)) (written before 0 (packed ps xs)) before) l),
-    )
+-- a record that can be measured, and whose numbers were written one behind the other if there was room
+module _ (ps : List Part) (xs text before after : List ℕ) (n : ℕ) (e : Ok n ≡ measured (record_writes ps xs text)) (left : after ≡ cond (leb (total ps) (length before)) (filled ps xs before 0) before) where
+  parts : (fit ps xs ≡ true) × (n ≡ total ps)
+  parts =
+      let m = measured_is (record_writes ps xs text) n e in
+      let p = written_is ps xs text m.0 m.1 in
+      (p.0, m.2 ∙ ap length (sym p.2) ∙ packed_long ps xs p.0)
 
--- the record was written
-pub record_wrote : (ps : List Part) (xs text before after : List ℕ) (n : ℕ) → fit ps xs ≡ true → length text ≤ 0 → n ≡ total ps → leb n (length before) ≡ true
-    → after ≡ cond (leb n (length before)) (written before 0 (packed ps xs)) before
-    → (Ok n ≡ put_answer (record_writes ps xs text) (length before)) × (after ≡ put_buffer (record_writes ps xs text) before)
-record_wrote ps xs text before after n f none is room e =
-    let p = record_put ps xs text before after n f none is e in
-    (sym (p.0 ∙ cond-true _ _ _ room), p.1)
+  pub record_wrote : leb (total ps) (length before) ≡ true → (Ok n ≡ put_answer (record_writes ps xs text) (length before)) × (after ≡ put_buffer (record_writes ps xs text) before)
+  record_wrote t =
+      let room = leb-true (total ps) (length before) t in
+      let is = parts.1 in
+      wrote (record_writes ps xs text) n before after e (omega arith)
+      (λ w o. left ∙ cond-true _ _ _ t ∙ filled_is ps xs before 0 parts.0 (omega arith) ∙ ap (written before 0) (written_is ps xs text w o).2)
 
--- there was no room for it
-pub record_short : (ps : List Part) (xs text before after : List ℕ) (n : ℕ) → fit ps xs ≡ true → length text ≤ 0 → n ≡ total ps → leb n (length before) ≡ false
-    → after ≡ cond (leb n (length before)) (written before 0 (packed ps xs)) before
-    → (Err (fault ListOrTableTooShort n) ≡ put_answer (record_writes ps xs text) (length before)) × (after ≡ put_buffer (record_writes ps xs text) before)
-record_short ps xs text before after n f none is room e =
-    let p = record_put ps xs text before after n f none is e in
-    (sym (p.0 ∙ cond-false _ _ _ room), p.1)
-
--- numbers that were written one behind the other, where there was room, are the record
-pub record_filled : (ps : List Part) (xs before after : List ℕ) (n : ℕ) → fit ps xs ≡ true → n ≡ total ps → n ≤ length before → after ≡ filled ps xs before 0
-    → after ≡ cond (leb n (length before)) (written before 0 (packed ps xs)) before
-record_filled ps xs before after n f is room e =
-    e ∙ filled_is ps xs before 0 f (omega arith) ∙ sym (cond-true _ _ _ (le-leb n (length before) room))
-
-pub record_not_filled : (ps : List Part) (xs before : List ℕ) (n : ℕ) → length before < n → before ≡ cond (leb n (length before)) (written before 0 (packed ps xs)) before
-record_not_filled ps xs before n short = sym (cond-false _ _ _ (lt-leb n (length before) short))
-
--- a signed 16-bit number fits its part
-pub signed_fits : (z : ℤ) → SFits w16 z → ltb (folded z) 65536 ≡ true
-signed_fits (pos n) f = lt-ltb (2 * n) 65536 (omega (arith, f.sfits))
-signed_fits (negsuc n) f = lt-ltb (2 * n + 1) 65536 (omega (arith, f.sfits))
-
--- a record that is measured has no text
-pub textless_is : (n size : ℕ) (text : List ℕ) → Ok size ≡ textless n text → (size ≡ n) × (length text ≤ 0)
-textless_is n size text e =
-    ⊎_elim
-    (λ (l : 0 < length text).
-    let f : Ok size ≡ Err (fault TextUnfit 0) = e ∙ cond-true _ _ _ (lt-ltb 0 (length text) l) in
-    let z : ◌≡◌ {A = ℕ} 0 1 = cc in absurd (omega arith))
-    (λ (l : length text ≤ 0).
-    let f : Ok size ≡ Ok n = e ∙ cond-false _ _ _ (le-ltb 0 (length text) l) in
-    let is : size ≡ n = cc in
-    (is, l))
-    (cases_lt 0 (length text))
+  pub record_short : leb (total ps) (length before) ≡ false → (Err (fault ListOrTableTooShort n) ≡ put_answer (record_writes ps xs text) (length before)) × (after ≡ put_buffer (record_writes ps xs text) before)
+  record_short t =
+      let short = leb-false (total ps) (length before) t in
+      let is = parts.1 in
+      no_room (record_writes ps xs text) n before after e (omega arith) (left ∙ cond-false _ _ _ t)
 
 measured_by : (t : Bool) (n : ℕ) (w : List ℕ) → length w ≡ n → cond {A = Result ℕ Fault} t (Err (fault TextUnfit 0)) (Ok n) ≡ measured (cond t (declined 0) (bytes w))
 measured_by true n w l = refl
 measured_by false n w l = ap (λ (x : ℕ). Ok x) (sym l)
-
-declined_by : (f t : Bool) (o : Output) → t ≡ true → cond f (cond t (declined 0) o) (declined 0) ≡ declined 0
-declined_by true t o e = cond-true t (declined 0) o e
-declined_by false t o e = refl
 
 -- what measuring a record answers
 pub record_measured : (ps : List Part) (xs text : List ℕ) (n : ℕ) → fit ps xs ≡ true → n ≡ total ps → textless n text ≡ measured (record_writes ps xs text)
@@ -301,17 +263,3 @@ record_measured ps xs text n f is =
     let l : length (packed ps xs) ≡ n = packed_long ps xs f ∙ sym is in
     let o : record_writes ps xs text ≡ cond (ltb 0 (length text)) (declined 0) (bytes (packed ps xs)) = cond-true _ _ _ f in
     measured_by (ltb 0 (length text)) n (packed ps xs) l ∙ sym (ap measured o)
-
--- a text that a record does not take
-pub record_declined : (ps : List Part) (xs text before : List ℕ) (n : ℕ) (f : Fault) → Err f ≡ textless n text
-    → (Err f ≡ put_answer (record_writes ps xs text) (length before)) × (before ≡ put_buffer (record_writes ps xs text) before)
-record_declined ps xs text before n f e =
-    ⊎_elim
-    (λ (l : 0 < length text).
-    let is : Err f ≡ Err (fault TextUnfit 0) = e ∙ cond-true _ _ _ (lt-ltb 0 (length text) l) in
-    let o : record_writes ps xs text ≡ declined 0 = declined_by (fit ps xs) (ltb 0 (length text)) (bytes (packed ps xs)) (lt-ltb 0 (length text) l) in
-    (is ∙ sym (ap (λ (x : Output). put_answer x (length before)) o), sym (ap (λ (x : Output). put_buffer x before) o)))
-    (λ (l : length text ≤ 0).
-    let g : Err f ≡ Ok n = e ∙ cond-false _ _ _ (le-ltb 0 (length text) l) in
-    let z : ◌≡◌ {A = ℕ} 0 1 = cc in absurd (omega arith))
-    (cases_lt 0 (length text))

@@ -1,15 +1,14 @@
 -- Texts that end before a zero keep the conditions of a kind, whatever their limit.
-use Rattle.std.proofs.Common.{◌≡◌, ℕ, zero, suc, ◌+◌, ◌<◌, ◌≤◌, Bool, false, ltb, ◌⊎◌, List, [], ◌∷◌, ◌++◌, length, take, Ok, sym, refl, ap, ◌∙◌, subst, inr, ⊎_elim, arith}
+use Rattle.std.proofs.Common.{◌≡◌, ℕ, zero, suc, ◌+◌, ◌<◌, ◌≤◌, Bool, false, ltb, ◌⊎◌, List, [], ◌∷◌, ◌++◌, length, take, Some, None, Option, Ok, sym, refl, ap, ◌∙◌, subst, inr, ⊎_elim, arith}
 use Rattle.std.proofs.lemmas.List.{length-append, length-take, take_all, take-take, take_at}
-use Rattle.std.proofs.lemmas.Bool.{cases_lt, lt-ltb, le-ltb, le-leb, cond-true, cond-false}
+use Rattle.std.proofs.lemmas.Bool.{cases_lt, lt-ltb, le-ltb, cond-true, cond-false}
 use Rattle.std.specs.List.{prefix_len}
 use Rattle.buffers.specs.Moves.{written}
 use Rattle.faults.specs.declared.refusal.Refusal.{Refusal}
 use Rattle.faults.specs.declared.refusal.Refusal.TheVariants.{RecordShort, TextWithoutZero}
-use Rattle.kinds.specs.declared.ended.Limit.{Limit}
-use Rattle.kinds.specs.declared.ended.Limit.TheVariants.{Most, Any}
 use Rattle.kinds.specs.Ended.{before_zero, front, ended, text_reads, closed, limited, text_writes, text_kind}
-use Rattle.kinds.specs.Kind.{accepted, refused, Output, bytes, declined, Steady, Returns, Keeps, measured, put_answer, put_buffer}
+use Rattle.kinds.specs.Kind.{accepted, refused, bytes, declined, Steady, Returns, Keeps, measured, put_answer, put_buffer}
+use Rattle.kinds.proofs.Writing.{measured_is, wrote}
 use Rattle.kinds.proofs.Records.{written_twice}
 
 -- a list that begins as another does, past the other's first zero, has its first zero at the same place
@@ -47,19 +46,19 @@ ended_refused b r p e =
     (cases_lt (before_zero b) (length b))
 
 -- the bytes that are looked at are the data's first ones
-front_length : (l : Limit) (b : List ℕ) → length (front l b) ≤ length b
-front_length (Most m) b = omega (arith, length-take (m + 1) b)
-front_length Any b = omega arith
+front_length : (l : Option ℕ) (b : List ℕ) → length (front l b) ≤ length b
+front_length (Some m) b = omega (arith, length-take (m + 1) b)
+front_length None b = omega arith
 
-front_takes : (l : Limit) (b : List ℕ) (n : ℕ) → n ≤ length (front l b) → take n (front l b) ≡ take n b
-front_takes (Most m) b n h = take-take n (m + 1) b (omega (arith, length-take (m + 1) b))
-front_takes Any b n h = refl
+front_takes : (l : Option ℕ) (b : List ℕ) (n : ℕ) → n ≤ length (front l b) → take n (front l b) ≡ take n b
+front_takes (Some m) b n h = take-take n (m + 1) b (omega (arith, length-take (m + 1) b))
+front_takes None b n h = refl
 
-front_long : (l : Limit) (b c : List ℕ) (n : ℕ) → n ≤ length (front l b) → take n c ≡ take n b → n ≤ length (front l c)
-front_long (Most m) b c n h e = omega (arith, length-take (m + 1) b, length-take (m + 1) c, ap length e, length-take n b, length-take n c)
-front_long Any b c n h e = omega (arith, ap length e, length-take n b, length-take n c)
+front_long : (l : Option ℕ) (b c : List ℕ) (n : ℕ) → n ≤ length (front l b) → take n c ≡ take n b → n ≤ length (front l c)
+front_long (Some m) b c n h e = omega (arith, length-take (m + 1) b, length-take (m + 1) c, ap length e, length-take n b, length-take n c)
+front_long None b c n h e = omega (arith, ap length e, length-take n b, length-take n c)
 
-text_steady : (l : Limit) (b ns : List ℕ) (at len u : ℕ) → text_reads l b ≡ accepted ns at len u → Steady (text_reads l) b ns at len u
+text_steady : (l : Option ℕ) (b ns : List ℕ) (at len u : ℕ) → text_reads l b ≡ accepted ns at len u → Steady (text_reads l) b ns at len u
 text_steady l b ns at len u e =
     let f = front l b in
     let p = ended_is f ns at len u e in
@@ -82,7 +81,7 @@ text_steady l b ns at len u e =
           cc;
     }
 
-text_faults : (l : Limit) (b : List ℕ) (r : Refusal) (p : ℕ) → text_reads l b ≡ refused r p → (p ≤ length b) × ((r ≡ RecordShort) ⊎ (r ≡ TextWithoutZero))
+text_faults : (l : Option ℕ) (b : List ℕ) (r : Refusal) (p : ℕ) → text_reads l b ≡ refused r p → (p ≤ length b) × ((r ≡ RecordShort) ⊎ (r ≡ TextWithoutZero))
 text_faults l b r p e =
     let q = ended_refused (front l b) r p e in
     (omega (arith, q.0), inr q.1)
@@ -100,13 +99,13 @@ closed_is text out e =
     (cases_lt (before_zero text) (length text))
 
 -- within its limit
-abbrev Short : Limit → List ℕ → Type 0
-Short (Most m) text = length text ≤ m
-Short Any text = Unit {0}
+abbrev Short : Option ℕ → List ℕ → Type 0
+Short (Some m) text = length text ≤ m
+Short None text = Unit {0}
 
-pub limited_is : (l : Limit) (text out : List ℕ) → limited l text ≡ bytes out
+pub limited_is : (l : Option ℕ) (text out : List ℕ) → limited l text ≡ bytes out
     → Short l text × (length text ≤ before_zero text) × (text ++ (0 ∷ []) ≡ out)
-limited_is (Most m) text out e =
+limited_is (Some m) text out e =
     ⊎_elim
     (λ (h : m < length text).
     let f : declined m ≡ bytes out = sym (cond-true _ _ _ (lt-ltb m (length text) h)) ∙ e in
@@ -115,25 +114,26 @@ limited_is (Most m) text out e =
     let p = closed_is text out (sym (cond-false _ _ _ (le-ltb m (length text) h)) ∙ e) in
     (h, p.0, p.1))
     (cases_lt m (length text))
-limited_is Any text out e = let p = closed_is text out e in (tt, p.0, p.1)
+limited_is None text out e = let p = closed_is text out e in (tt, p.0, p.1)
 
-leading_all : (p : ℕ → Bool) (x : ℕ) (xs : List ℕ) → length xs ≤ prefix_len p xs → p x ≡ false → prefix_len p (xs ++ (x ∷ [])) ≡ length xs
-leading_all p x [] h f = grind arith
-leading_all p x (y ∷ xs) h f = let ih = leading_all p x xs in grind arith
+-- the first zero behind a text without one is right behind it
+pub leading_before : (p : ℕ → Bool) (x : ℕ) (xs ys : List ℕ) → length xs ≤ prefix_len p xs → p x ≡ false → prefix_len p (xs ++ (x ∷ ys)) ≡ length xs
+leading_before p x [] ys h f = grind arith
+leading_before p x (y ∷ xs) ys h f = let ih = leading_before p x xs ys in grind arith
 
 -- all of what is written is looked at
-front_whole : (l : Limit) (text : List ℕ) → Short l text → front l (text ++ (0 ∷ [])) ≡ text ++ (0 ∷ [])
-front_whole (Most m) text h = take_all (m + 1) (text ++ (0 ∷ [])) (omega (arith, length-append text (0 ∷ [])))
-front_whole Any text h = refl
+front_whole : (l : Option ℕ) (text : List ℕ) → Short l text → front l (text ++ (0 ∷ [])) ≡ text ++ (0 ∷ [])
+front_whole (Some m) text h = take_all (m + 1) (text ++ (0 ∷ [])) (omega (arith, length-append text (0 ∷ [])))
+front_whole None text h = refl
 
-text_back : (l : Limit) (ns text out : List ℕ) → text_writes l ns text ≡ bytes out → Returns (text_reads l) ns text out
+text_back : (l : Option ℕ) (ns text out : List ℕ) → text_writes l ns text ≡ bytes out → Returns (text_reads l) ns text out
 text_back l (n ∷ ns) text out e = let z : ◌≡◌ {A = ℕ} 0 1 = cc in absurd (omega arith)
 text_back l [] text out e =
     let p = limited_is l text out e in
     let w = text ++ (0 ∷ []) in
     let long : length w ≡ length text + 1 = length-append text (0 ∷ []) in
     let is = p.2 in
-    let zero-at = leading_all (ltb 0) 0 text p.1 refl in
+    let zero-at = leading_before (ltb 0) 0 text [] p.1 refl in
     let got : ended w ≡ accepted [] 0 (length text) (length text + 1) = ended_at w (length text) zero-at (omega arith) in
     let read : text_reads l w ≡ accepted [] 0 (length text) (length w) =
     ap ended (front_whole l text p.0) ∙ got ∙ ap (accepted [] 0 (length text)) (sym long) in
@@ -141,37 +141,23 @@ text_back l [] text out e =
     (record { at = 0; read = read; text_is = take_at text (0 ∷ []) (length text) refl })
 
 -- every text keeps the conditions
-pub text_keeps : (key : List ℕ) (l : Limit) → length key ≡ 4 → Keeps (text_kind key l)
+pub text_keeps : (key : List ℕ) (l : Option ℕ) → length key ≡ 4 → Keeps (text_kind key l)
 text_keeps key l k = record { key_size = k; steady = text_steady l; back = text_back l; faults = text_faults l }
 
--- a length that was measured is that of bytes
-pub measured_is : (o : Output) (n : ℕ) → Ok n ≡ measured o → (w : List ℕ) × (o ≡ bytes w) × (n ≡ length w)
-measured_is (bytes w) n e = (w, refl, cc)
-measured_is (declined p) n e = let z : ◌≡◌ {A = ℕ} 0 1 = cc in absurd (omega arith)
-
--- a text that was written, and its zero behind it
-pub text_wrote : (l : Limit) (text before after : List ℕ) (n : ℕ) → Ok n ≡ measured (limited l text) → n ≤ length before
-    → after ≡ written (written before 0 text) (length text) (0 ∷ [])
-    → (Ok n ≡ put_answer (limited l text) (length before)) × (after ≡ put_buffer (limited l text) before)
-text_wrote l text before after n e room a =
-    let m = measured_is (limited l text) n e in
-    let w = m.0 in
-    let o = m.1 in
-    let is = (limited_is l text w o).2 in
-    let long : length w ≡ length text + 1 = ap length (sym is) ∙ length-append text (0 ∷ []) in
-    let n-is = m.2 in
-    let t = le-leb (length w) (length before) (omega arith) in
-    let twice : written (written before 0 text) (0 + length text) (0 ∷ []) ≡ written before 0 (text ++ (0 ∷ [])) =
-    written_twice before 0 (length text) text (0 ∷ []) refl (omega arith) in
-    let zero-add : 0 + length text ≡ length text = omega arith in
-    let b : after ≡ written before 0 w =
-    a ∙ ap (λ (x : ℕ). written (written before 0 text) x (0 ∷ [])) (sym zero-add) ∙ twice ∙ ap (written before 0) is in (
-      ap (λ (x : ℕ). Ok x) n-is ∙ sym (ap (λ (x : Output). put_answer x (length before)) o ∙ cond-true _ _ _ t),
-      b ∙ sym (ap (λ (x : Output). put_buffer x before) o ∙ cond-true _ _ _ t),
-    )
-
 -- a text is measured with its zero
-pub text_size : (l : Limit) (text : List ℕ) (n : ℕ) → Ok n ≡ measured (limited l text) → n ≡ length text + 1
+pub text_size : (l : Option ℕ) (text : List ℕ) (n : ℕ) → Ok n ≡ measured (limited l text) → n ≡ length text + 1
 text_size l text n e =
     let m = measured_is (limited l text) n e in
     m.2 ∙ ap length (sym (limited_is l text m.0 m.1).2) ∙ length-append text (0 ∷ [])
+
+-- a text that was written, and its zero behind it
+pub text_wrote : (l : Option ℕ) (text before after : List ℕ) (n : ℕ) → Ok n ≡ measured (limited l text) → n ≤ length before
+    → after ≡ written (written before 0 text) (length text) (0 ∷ [])
+    → (Ok n ≡ put_answer (limited l text) (length before)) × (after ≡ put_buffer (limited l text) before)
+text_wrote l text before after n e room a =
+    let is = text_size l text n e in
+    let zero-add : 0 + length text ≡ length text = omega arith in
+    let twice : written (written before 0 text) (0 + length text) (0 ∷ []) ≡ written before 0 (text ++ (0 ∷ [])) =
+    written_twice before 0 (length text) text (0 ∷ []) refl (omega arith) in
+    wrote (limited l text) n before after e room
+    (λ w o. a ∙ ap (λ (x : ℕ). written (written before 0 text) x (0 ∷ [])) (sym zero-add) ∙ twice ∙ ap (written before 0) (limited_is l text w o).2)

@@ -1,21 +1,19 @@
 -- Texts that end before a zero, without numbers.
-use Rattle.std.specs.Prelude.{ℕ, ◌+◌, cond, List, [], ◌∷◌, ◌++◌, length, take, Ok, Err, Result, nat_lt}
+use Rattle.std.specs.Prelude.{ℕ, ◌+◌, cond, List, [], ◌∷◌, ◌++◌, length, take, Some, None, Option, Ok, Err, Result, nat_lt}
 use Rattle.std.specs.List.{prefix_len}
 use Rattle.faults.specs.declared.fault.Fault.{Fault}
 use Rattle.faults.specs.declared.refusal.Refusal.TheVariants.{TextWithoutZero}
 use Rattle.faults.specs.Faults.{fault}
-use Rattle.kinds.specs.declared.ended.Limit.{Limit}
-use Rattle.kinds.specs.declared.ended.Limit.TheVariants.{Most, Any}
 use Rattle.kinds.specs.Kind.{Outcome, accepted, refused, Output, bytes, declined, KindSpec}
 
 -- how many bytes stand before the first zero, or all of them
 abbrev pub before_zero : List ℕ → ℕ
 before_zero b = prefix_len (nat_lt 0) b
 
--- the bytes among which the zero has to be
-abbrev pub front : Limit → List ℕ → List ℕ
-front (Most m) b = take (m + 1) b
-front Any b = b
+-- the bytes among which the zero has to be: the first m + 1 for a text of at most m bytes, all for one of any length
+abbrev pub front : Option ℕ → List ℕ → List ℕ
+front (Some m) b = take (m + 1) b
+front None b = b
 
 -- the text in these bytes, all of them being looked at
 abbrev pub ended : List ℕ → Outcome
@@ -25,7 +23,7 @@ ended b = cond (nat_lt (before_zero b) (length b)) (accepted [] 0 (before_zero b
 abbrev pub ended_length : List ℕ → Result ℕ Fault
 ended_length b = cond (nat_lt (before_zero b) (length b)) (Ok (before_zero b)) (Err (fault TextWithoutZero 0))
 
-abbrev pub text_reads : Limit → List ℕ → Outcome
+abbrev pub text_reads : Option ℕ → List ℕ → Outcome
 text_reads l b = ended (front l b)
 
 -- a text with a zero in it is declined at the first; else it is written with a zero behind it
@@ -33,14 +31,14 @@ abbrev pub closed : List ℕ → Output
 closed text = cond (nat_lt (before_zero text) (length text)) (declined (before_zero text)) (bytes (text ++ (0 ∷ [])))
 
 -- a text that is too long is declined first, at its limit
-abbrev pub limited : Limit → List ℕ → Output
-limited (Most m) text = cond (nat_lt m (length text)) (declined m) (closed text)
-limited Any text = closed text
+abbrev pub limited : Option ℕ → List ℕ → Output
+limited (Some m) text = cond (nat_lt m (length text)) (declined m) (closed text)
+limited None text = closed text
 
 -- there are no numbers
-abbrev pub text_writes : Limit → List ℕ → List ℕ → Output
+abbrev pub text_writes : Option ℕ → List ℕ → List ℕ → Output
 text_writes l [] text = limited l text
 text_writes l (x ∷ xs) text = declined 0
 
-abbrev pub text_kind : List ℕ → Limit → KindSpec
+abbrev pub text_kind : List ℕ → Option ℕ → KindSpec
 text_kind key l = record { key = key; reads = text_reads l; writes = text_writes l }

@@ -6,7 +6,7 @@ mod kind;
 mod look;
 mod packed;
 
-pub use ended::{Limit, ended_length, first_zero, measure_text, read_text, write_text};
+pub use ended::{ended_length, first_zero, measure_text, read_text, write_text};
 pub use kind::{Kind, Reading, is_kind};
 pub use look::look_at;
-pub use packed::{check_record, measure_record};
+pub use packed::{Packed, check_record, measure_record};

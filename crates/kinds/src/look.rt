@@ -4,7 +4,7 @@ ghost use Rattle.kinds.specs.Kind.{Says};
 ghost use Rattle.kinds.specs.Look.{key_at, whole_block, Located, Looks};
 
 use crate::kind::{Kind, Reading, is_kind};
-use buffers::{byte_at, word32_at};
+use buffers::Word;
 use faults::{Fault, Refusal};
 
 /// The size of the data of the block that begins at a place; refuses 34 unless it lies wholly in the bytes.
@@ -15,7 +15,7 @@ fn check_block(bytes: &[u8], at: usize) -> Result<usize, Fault>
     if at > bytes.len() || bytes.len() - at < 8 {
         return Err(Fault::at(Refusal::NoSuchBlock, 0));
     }
-    let size = word32_at(bytes, at + 4) as usize;
+    let size = u32::at(bytes, at + 4) as usize;
     if size > bytes.len() - at - 8 {
         return Err(Fault::at(Refusal::NoSuchBlock, 0));
     }
@@ -27,12 +27,7 @@ fn key_of(bytes: &[u8], at: usize) -> [u8; 4]
     requires { at + 8 ≤ length bytes.now }
     ensures { result ≡ key_at bytes.now at }
 {
-    [
-        byte_at(bytes, at),
-        byte_at(bytes, at + 1),
-        byte_at(bytes, at + 2),
-        byte_at(bytes, at + 3),
-    ]
+    u32::at(bytes, at).to_be_bytes()
 }
 
 /// Reads the block that begins at a place of a file, and has that number, as a kind: its record, its text as a place in the
@@ -48,10 +43,8 @@ pub fn look_at<K: Kind>(bytes: &[u8], at: usize, number: usize) -> Result<Readin
     let data = &bytes[place..place + size];
     match K::read(data) {
         Ok(reading) => Ok(Reading {
-            record: reading.record,
             text: place + reading.text,
-            length: reading.length,
-            used: reading.used,
+            ..reading
         }),
         Err(fault) => Err(Fault::in_block(fault.refusal, number, place + fault.place)),
     }

@@ -5,4 +5,3 @@ pub mod Loca
 pub mod Rcvi
 pub mod Supi
 pub mod Time
-pub mod Firmware

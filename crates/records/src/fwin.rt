@@ -1,14 +1,11 @@
 //! FWIN: the windows of the range and Doppler transforms.
-ghost use Rattle.std.specs.Prelude.{◌≡◌, true, length, if◌then◌else◌, codes, nat_le, refl};
-ghost use Rattle.buffers.specs.Moves.{written};
-ghost use Rattle.kinds.specs.Packed.{fit, packed};
+ghost use Rattle.std.specs.Prelude.{codes, refl};
 ghost use Rattle.records.specs.Fwin.{fwin_parts, fwin_numbers, fwin_kind};
 ghost use Rattle.kinds.proofs.Records.{record_keeps};
 ghost use Rattle.std.proofs.Common.{rules};
 
-use buffers::{byte_at, word64_at, write_byte, write_word64};
-use faults::{Fault, Refusal};
-use kinds::{Kind, Reading, check_record, measure_record};
+use buffers::{Word, write_word};
+use kinds::Packed;
 
 /// The windows of a FWIN block; parameters are the bit patterns of 64-bit floats.
 #[derive(Clone, Copy, PartialEq, Debug)]
@@ -23,62 +20,41 @@ pub struct Fwin {
     pub doppler_parameter: u64,
 }
 
-/// Writes the numbers at the start of `out`; false, and nothing written, where there is no room for them.
-fn put(value: Fwin, out: &mut [u8]) -> bool
-    ensures answer { result ≡ nat_le 18 (length out.old) }
-    ensures fits { fit fwin_parts (fwin_numbers value) ≡ true }
-    ensures buffer { out.new ≡ (if nat_le 18 (length out.old) then written out.old 0 (packed fwin_parts (fwin_numbers value)) else out.old) }
-{
-    if out.len() < 18 {
-        return false;
-    }
-    let _ = write_byte(out, 0, value.range);
-    let _ = write_byte(out, 1, value.doppler);
-    let _ = write_word64(out, 2, value.range_parameter);
-    let _ = write_word64(out, 10, value.doppler_parameter);
-    true
-}
+impl Packed for Fwin {
+    const KEY: [u8; 4] = *b"FWIN";
 
-impl Kind for Fwin {
-    type Record = Fwin;
+    ghost KEY = { codes "FWIN" };
 
     ghost kind = { fwin_kind };
 
+    ghost parts = { fwin_parts };
+
     ghost numbers = { fwin_numbers };
+
+    ghost packs = { refl };
 
     ghost keeps = { record_keeps (codes "FWIN") fwin_parts refl };
 
     ghost apart = { Prim.search rules };
 
-    fn key() -> [u8; 4] {
-        *b"FWIN"
-    }
-
-    fn read(bytes: &[u8]) -> Result<Reading<Fwin>, Fault> {
-        check_record(bytes, 18)?;
-        let record = Fwin {
-            range: byte_at(bytes, 0),
-            doppler: byte_at(bytes, 1),
-            range_parameter: word64_at(bytes, 2),
-            doppler_parameter: word64_at(bytes, 10),
-        };
-        Ok(Reading {
-            record,
-            text: 0,
-            length: 0,
-            used: 18,
-        })
-    }
-
-    fn measure(_value: Fwin, text: &[u8]) -> Result<usize, Fault> {
-        measure_record(18, text)
-    }
-
-    fn write(value: Fwin, text: &[u8], out: &mut [u8]) -> Result<usize, Fault> {
-        let size = measure_record(18, text)?;
-        if !put(value, out) {
-            return Err(Fault::at(Refusal::ListOrTableTooShort, size));
+    fn unpack(bytes: &[u8]) -> Fwin {
+        Fwin {
+            range: u8::at(bytes, 0),
+            doppler: u8::at(bytes, 1),
+            range_parameter: u64::at(bytes, 2),
+            doppler_parameter: u64::at(bytes, 10),
         }
-        Ok(size)
+    }
+
+    fn size(self) -> usize {
+        18
+    }
+
+    fn pack(self, out: &mut [u8]) -> bool {
+        out.len() >= 18
+            && write_word(out, 0, self.range)
+            && write_word(out, 1, self.doppler)
+            && write_word(out, 2, self.range_parameter)
+            && write_word(out, 10, self.doppler_parameter)
     }
 }

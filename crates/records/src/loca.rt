@@ -1,14 +1,11 @@
 //! LOCA: where the receiver stands.
-ghost use Rattle.std.specs.Prelude.{◌≡◌, true, length, if◌then◌else◌, codes, nat_le, refl};
-ghost use Rattle.buffers.specs.Moves.{written};
-ghost use Rattle.kinds.specs.Packed.{fit, packed};
+ghost use Rattle.std.specs.Prelude.{codes, refl};
 ghost use Rattle.records.specs.Loca.{loca_parts, loca_numbers, loca_kind};
 ghost use Rattle.kinds.proofs.Records.{record_keeps};
 ghost use Rattle.std.proofs.Common.{rules};
 
-use buffers::{word64_at, write_word64};
-use faults::{Fault, Refusal};
-use kinds::{Kind, Reading, check_record, measure_record};
+use buffers::{Word, write_word};
+use kinds::Packed;
 
 /// The location of a LOCA block; its numbers are the bit patterns of 64-bit floats.
 #[derive(Clone, Copy, PartialEq, Debug)]
@@ -21,60 +18,39 @@ pub struct Loca {
     pub altitude: u64,
 }
 
-/// Writes the numbers at the start of `out`; false, and nothing written, where there is no room for them.
-fn put(value: Loca, out: &mut [u8]) -> bool
-    ensures answer { result ≡ nat_le 24 (length out.old) }
-    ensures fits { fit loca_parts (loca_numbers value) ≡ true }
-    ensures buffer { out.new ≡ (if nat_le 24 (length out.old) then written out.old 0 (packed loca_parts (loca_numbers value)) else out.old) }
-{
-    if out.len() < 24 {
-        return false;
-    }
-    let _ = write_word64(out, 0, value.latitude);
-    let _ = write_word64(out, 8, value.longitude);
-    let _ = write_word64(out, 16, value.altitude);
-    true
-}
+impl Packed for Loca {
+    const KEY: [u8; 4] = *b"LOCA";
 
-impl Kind for Loca {
-    type Record = Loca;
+    ghost KEY = { codes "LOCA" };
 
     ghost kind = { loca_kind };
 
+    ghost parts = { loca_parts };
+
     ghost numbers = { loca_numbers };
+
+    ghost packs = { refl };
 
     ghost keeps = { record_keeps (codes "LOCA") loca_parts refl };
 
     ghost apart = { Prim.search rules };
 
-    fn key() -> [u8; 4] {
-        *b"LOCA"
-    }
-
-    fn read(bytes: &[u8]) -> Result<Reading<Loca>, Fault> {
-        check_record(bytes, 24)?;
-        let record = Loca {
-            latitude: word64_at(bytes, 0),
-            longitude: word64_at(bytes, 8),
-            altitude: word64_at(bytes, 16),
-        };
-        Ok(Reading {
-            record,
-            text: 0,
-            length: 0,
-            used: 24,
-        })
-    }
-
-    fn measure(_value: Loca, text: &[u8]) -> Result<usize, Fault> {
-        measure_record(24, text)
-    }
-
-    fn write(value: Loca, text: &[u8], out: &mut [u8]) -> Result<usize, Fault> {
-        let size = measure_record(24, text)?;
-        if !put(value, out) {
-            return Err(Fault::at(Refusal::ListOrTableTooShort, size));
+    fn unpack(bytes: &[u8]) -> Loca {
+        Loca {
+            latitude: u64::at(bytes, 0),
+            longitude: u64::at(bytes, 8),
+            altitude: u64::at(bytes, 16),
         }
-        Ok(size)
+    }
+
+    fn size(self) -> usize {
+        24
+    }
+
+    fn pack(self, out: &mut [u8]) -> bool {
+        out.len() >= 24
+            && write_word(out, 0, self.latitude)
+            && write_word(out, 8, self.longitude)
+            && write_word(out, 16, self.altitude)
     }
 }

@@ -1,14 +1,14 @@
 //! RCVI: the description of the receiver.
-ghost use Rattle.std.specs.Prelude.{◌≡◌, ◌≤◌, true, length, if◌then◌else◌, nat_le};
-ghost use Rattle.buffers.specs.Moves.{written};
-ghost use Rattle.kinds.specs.Packed.{fit, packed};
-ghost use Rattle.records.specs.Rcvi.{rcvi_parts, rcvi_numbers, rcvi_bytes, rcvi_size, rcvi_kind};
-ghost use Rattle.records.specs.Firmware.{rcvi_keeps};
+ghost use Rattle.std.specs.Prelude.{◌≡◌, ◌+◌, ◌-◌, ◌≤◌, length, if◌then◌else◌, codes, nat_le, refl};
+ghost use Rattle.buffers.specs.Moves.{written, zeroed};
+ghost use Rattle.kinds.specs.Packed.{filled};
+ghost use Rattle.kinds.proofs.Fields.{field_keeps};
+ghost use Rattle.records.specs.Rcvi.{rcvi_parts, rcvi_numbers, rcvi_kind};
 ghost use Rattle.std.proofs.Common.{rules};
 
-use buffers::{word32_at, word64_at, write_bytes, write_word32, write_word64, zero_bytes};
+use buffers::{Word, write_bytes, write_word, zero_bytes};
 use faults::{Fault, Refusal};
-use kinds::{Kind, Reading, check_record, first_zero};
+use kinds::{Kind, Reading, check_record, first_zero, measure_text};
 
 /// The numbers of an RCVI block; its text is the firmware.
 #[derive(Clone, Copy, PartialEq, Debug)]
@@ -21,37 +21,18 @@ pub struct Rcvi {
     pub gain: u64,
 }
 
-/// The size of a record with its text; refuses 15 for a text longer than 31 bytes, at 31, then for one with a zero in it,
-/// at the first.
-fn measure_firmware(text: &[u8]) -> Result<usize, Fault>
-    ensures { result ≡ rcvi_size text.now }
-{
-    if text.len() > 31 {
-        return Err(Fault::at(Refusal::TextUnfit, 31));
-    }
-    let plain = first_zero(text);
-    if plain < text.len() {
-        return Err(Fault::at(Refusal::TextUnfit, plain));
-    }
-    Ok(48)
-}
-
 /// Writes numbers, text and zeros at the start of `out`; false, and nothing written, where there is no room for them.
 fn put(value: Rcvi, text: &[u8], out: &mut [u8]) -> bool
     requires { length text.now ≤ 31 }
     ensures answer { result ≡ nat_le 48 (length out.old) }
-    ensures fits { fit rcvi_parts (rcvi_numbers value) ≡ true }
-    ensures buffer { out.new ≡ (if nat_le 48 (length out.old) then written out.old 0 (rcvi_bytes (packed rcvi_parts (rcvi_numbers value)) text.now) else out.old) }
+    ensures buffer { out.new ≡ (if nat_le 48 (length out.old) then zeroed (written (filled rcvi_parts (rcvi_numbers value) out.old 0) 16 text.now) (16 + length text.now) (32 - length text.now) else out.old) }
 {
-    if out.len() < 48 {
-        return false;
-    }
-    let _ = write_word32(out, 0, value.receiver);
-    let _ = write_word32(out, 4, value.antenna);
-    let _ = write_word64(out, 8, value.gain);
-    let _ = write_bytes(out, 16, text);
-    let _ = zero_bytes(out, 16 + text.len(), 32 - text.len());
-    true
+    out.len() >= 48
+        && write_word(out, 0, value.receiver)
+        && write_word(out, 4, value.antenna)
+        && write_word(out, 8, value.gain)
+        && write_bytes(out, 16, text)
+        && zero_bytes(out, 16 + text.len(), 32 - text.len())
 }
 
 impl Kind for Rcvi {
@@ -61,7 +42,7 @@ impl Kind for Rcvi {
 
     ghost numbers = { rcvi_numbers };
 
-    ghost keeps = { rcvi_keeps };
+    ghost keeps = { field_keeps rcvi_parts 31 (codes "RCVI") refl };
 
     ghost apart = { Prim.search rules };
 
@@ -73,13 +54,12 @@ impl Kind for Rcvi {
         check_record(bytes, 48)?;
         let length = first_zero(&bytes[16..48]);
         if length < 32 {
-            let record = Rcvi {
-                receiver: word32_at(bytes, 0),
-                antenna: word32_at(bytes, 4),
-                gain: word64_at(bytes, 8),
-            };
             Ok(Reading {
-                record,
+                record: Rcvi {
+                    receiver: u32::at(bytes, 0),
+                    antenna: u32::at(bytes, 4),
+                    gain: u64::at(bytes, 8),
+                },
                 text: 16,
                 length,
                 used: 48,
@@ -90,11 +70,12 @@ impl Kind for Rcvi {
     }
 
     fn measure(_value: Rcvi, text: &[u8]) -> Result<usize, Fault> {
-        measure_firmware(text)
+        measure_text(text, Some(31))?;
+        Ok(48)
     }
 
     fn write(value: Rcvi, text: &[u8], out: &mut [u8]) -> Result<usize, Fault> {
-        let size = measure_firmware(text)?;
+        let size = Self::measure(value, text)?;
         if !put(value, text, out) {
             return Err(Fault::at(Refusal::ListOrTableTooShort, size));
         }

@@ -1,14 +1,11 @@
 //! TIME: a time stamp, finer than that of the header.
-ghost use Rattle.std.specs.Prelude.{◌≡◌, true, length, if◌then◌else◌, codes, nat_le, refl};
-ghost use Rattle.buffers.specs.Moves.{written};
-ghost use Rattle.kinds.specs.Packed.{fit, packed};
+ghost use Rattle.std.specs.Prelude.{codes, refl};
 ghost use Rattle.records.specs.Time.{time_parts, time_numbers, time_kind};
 ghost use Rattle.kinds.proofs.Records.{record_keeps};
 ghost use Rattle.std.proofs.Common.{rules};
 
-use buffers::{byte_at, word16_at, word64_at, write_byte, write_word16, write_word64};
-use faults::{Fault, Refusal};
-use kinds::{Kind, Reading, check_record, measure_record};
+use buffers::{Word, write_word};
+use kinds::Packed;
 
 /// The time of a TIME block; seconds and hours are the bit patterns of 64-bit floats.
 #[derive(Clone, Copy, PartialEq, Debug)]
@@ -33,72 +30,51 @@ pub struct Time {
     pub utc: u64,
 }
 
-/// Writes the numbers at the start of `out`; false, and nothing written, where there is no room for them.
-fn put(value: Time, out: &mut [u8]) -> bool
-    ensures answer { result ≡ nat_le 31 (length out.old) }
-    ensures fits { fit time_parts (time_numbers value) ≡ true }
-    ensures buffer { out.new ≡ (if nat_le 31 (length out.old) then written out.old 0 (packed time_parts (time_numbers value)) else out.old) }
-{
-    if out.len() < 31 {
-        return false;
-    }
-    let _ = write_byte(out, 0, value.mark);
-    let _ = write_word16(out, 1, value.year);
-    let _ = write_byte(out, 3, value.month);
-    let _ = write_byte(out, 4, value.day);
-    let _ = write_byte(out, 5, value.hour);
-    let _ = write_byte(out, 6, value.minute);
-    let _ = write_word64(out, 7, value.seconds);
-    let _ = write_word64(out, 15, value.coverage);
-    let _ = write_word64(out, 23, value.utc);
-    true
-}
+impl Packed for Time {
+    const KEY: [u8; 4] = *b"TIME";
 
-impl Kind for Time {
-    type Record = Time;
+    ghost KEY = { codes "TIME" };
 
     ghost kind = { time_kind };
 
+    ghost parts = { time_parts };
+
     ghost numbers = { time_numbers };
+
+    ghost packs = { refl };
 
     ghost keeps = { record_keeps (codes "TIME") time_parts refl };
 
     ghost apart = { Prim.search rules };
 
-    fn key() -> [u8; 4] {
-        *b"TIME"
-    }
-
-    fn read(bytes: &[u8]) -> Result<Reading<Time>, Fault> {
-        check_record(bytes, 31)?;
-        let record = Time {
-            mark: byte_at(bytes, 0),
-            year: word16_at(bytes, 1),
-            month: byte_at(bytes, 3),
-            day: byte_at(bytes, 4),
-            hour: byte_at(bytes, 5),
-            minute: byte_at(bytes, 6),
-            seconds: word64_at(bytes, 7),
-            coverage: word64_at(bytes, 15),
-            utc: word64_at(bytes, 23),
-        };
-        Ok(Reading {
-            record,
-            text: 0,
-            length: 0,
-            used: 31,
-        })
-    }
-
-    fn measure(_value: Time, text: &[u8]) -> Result<usize, Fault> {
-        measure_record(31, text)
-    }
-
-    fn write(value: Time, text: &[u8], out: &mut [u8]) -> Result<usize, Fault> {
-        let size = measure_record(31, text)?;
-        if !put(value, out) {
-            return Err(Fault::at(Refusal::ListOrTableTooShort, size));
+    fn unpack(bytes: &[u8]) -> Time {
+        Time {
+            mark: u8::at(bytes, 0),
+            year: u16::at(bytes, 1),
+            month: u8::at(bytes, 3),
+            day: u8::at(bytes, 4),
+            hour: u8::at(bytes, 5),
+            minute: u8::at(bytes, 6),
+            seconds: u64::at(bytes, 7),
+            coverage: u64::at(bytes, 15),
+            utc: u64::at(bytes, 23),
         }
-        Ok(size)
+    }
+
+    fn size(self) -> usize {
+        31
+    }
+
+    fn pack(self, out: &mut [u8]) -> bool {
+        out.len() >= 31
+            && write_word(out, 0, self.mark)
+            && write_word(out, 1, self.year)
+            && write_word(out, 3, self.month)
+            && write_word(out, 4, self.day)
+            && write_word(out, 5, self.hour)
+            && write_word(out, 6, self.minute)
+            && write_word(out, 7, self.seconds)
+            && write_word(out, 15, self.coverage)
+            && write_word(out, 23, self.utc)
     }
 }

@@ -3,10 +3,12 @@
 
 mod city;
 mod sitd;
+mod text;
 mod tool;
 mod zone;
 
-pub use city::City;
-pub use sitd::Sitd;
-pub use tool::Tool;
-pub use zone::Zone;
+pub use city::{City, CityLabel};
+pub use sitd::{Sitd, SitdLabel};
+pub use text::{Label, Text};
+pub use tool::{Tool, ToolLabel};
+pub use zone::{Zone, ZoneLabel};

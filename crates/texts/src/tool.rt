@@ -1,47 +1,28 @@
 //! TOOL: name and version of a program that made or worked on the file.
-ghost use Rattle.texts.specs.Tool.{tool_numbers, tool_kind};
-ghost use Rattle.std.specs.Prelude.{refl, codes};
+ghost use Rattle.std.specs.Prelude.{Some, None, codes, refl};
 ghost use Rattle.kinds.proofs.Texts.{text_keeps};
-ghost use Rattle.kinds.specs.declared.ended.Limit.TheVariants.{Most};
-ghost use Rattle.std.proofs.Common.{rules};
+ghost use Rattle.texts.specs.Tool.{tool_kind};
 
-use faults::Fault;
-use kinds::{Kind, Limit, Reading, measure_text, read_text, write_text};
+use crate::text::{Label, Text};
 
-/// A TOOL block, which has no numbers.
-#[derive(Clone, Copy, PartialEq, Debug)]
-pub struct Tool;
+/// The kind of a TOOL block.
+pub type Tool = Text<ToolLabel>;
 
-impl Kind for Tool {
-    type Record = Tool;
+/// The label of a TOOL block.
+pub struct ToolLabel;
+
+impl Label for ToolLabel {
+    const KEY: [u8; 4] = *b"TOOL";
+
+    const MOST: Option<usize> = Some(255);
+
+    ghost KEY = { codes "TOOL" };
+
+    ghost MOST = { Some 255 };
 
     ghost kind = { tool_kind };
 
-    ghost numbers = { tool_numbers };
+    ghost ends = { refl };
 
-    ghost keeps = { text_keeps (codes "TOOL") (Most 255) refl };
-
-    ghost apart = { Prim.search rules };
-
-    fn key() -> [u8; 4] {
-        *b"TOOL"
-    }
-
-    fn read(bytes: &[u8]) -> Result<Reading<Tool>, Fault> {
-        let length = read_text(bytes, Limit::Most(255))?;
-        Ok(Reading {
-            record: Tool,
-            text: 0,
-            length,
-            used: length + 1,
-        })
-    }
-
-    fn measure(_value: Tool, text: &[u8]) -> Result<usize, Fault> {
-        measure_text(text, Limit::Most(255))
-    }
-
-    fn write(_value: Tool, text: &[u8], out: &mut [u8]) -> Result<usize, Fault> {
-        write_text(text, Limit::Most(255), out)
-    }
+    ghost keeps = { text_keeps (codes "TOOL") (Some 255) refl };
 }

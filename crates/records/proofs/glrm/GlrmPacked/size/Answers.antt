@@ -1,0 +1,6 @@
+use Rattle.std.proofs.Common.{rules}
+use Rattle.std.proofs.lemmas.Bool.{and_from, lt-ltb}
+use Rattle.records.proofs.glrm.GlrmPacked.size.Goals as goal
+
+pub returns-clause-fits : goal.returns-clause-fits
+returns-clause-fits c = search (rules, and_from, lt-ltb)
