@@ -2,7 +2,7 @@
 ghost use Rattle.std.specs.Prelude.{Some};
 ghost use Rattle.printed.specs.Blocks.{head_text};
 
-use crate::keys::Key;
+use crate::keys::{FROM_SPACE, Key};
 use reader::Entry;
 use std::fmt;
 
@@ -15,7 +15,7 @@ impl fmt::Display for Head {
 
     fn fmt<W: fmt::Write>(&self, f: &mut fmt::Formatter<W>) -> fmt::Result {
         let number = self.0;
-        let key = Key(self.1.key);
+        let key = Key::<FROM_SPACE>(self.1.key);
         let place = self.1.place;
         let size = self.1.size;
         write!(f, "block {number} {key} at {place}, size {size}")
