@@ -32,11 +32,7 @@ impl<const LEAST: u8> fmt::Display for Key<LEAST> {
     ghost output = { λ x. Some (key_text LEAST x.0) };
 
     fn fmt<W: fmt::Write>(&self, f: &mut fmt::Formatter<W>) -> fmt::Result {
-        let bytes = self.0.to_be_bytes();
-        let a = letter::<LEAST>(bytes[0]);
-        let b = letter::<LEAST>(bytes[1]);
-        let c = letter::<LEAST>(bytes[2]);
-        let d = letter::<LEAST>(bytes[3]);
+        let [a, b, c, d] = self.0.to_be_bytes().map(letter::<LEAST>);
         write!(f, "{a}{b}{c}{d}")
     }
 }
