@@ -7,7 +7,7 @@ use std::fmt;
 use std::num::f32_from_bits_with_nan;
 
 /// How the pattern of a field is printed.
-#[derive(Drop)]
+#[derive(Clone, Copy, PartialEq, Eq, Debug)]
 pub enum Form {
     /// As an unsigned number.
     Number,
@@ -25,7 +25,8 @@ pub struct FieldLine {
     pattern: u32,
 }
 
-/// CODAR's name of a field.
+/// CODAR's name of a field; nothing is printed for a field that there is not.
+// A match and no table read by the number: at a constant of 21 strings the proof did not close, the check stopping at its limit of steps.
 fn field_name(number: usize) -> &'static str
     ensures { result.now ≡ name_of number }
 {

@@ -14,7 +14,7 @@ pub const PAST_SPACE: u8 = 33;
 
 /// A block's key or another code of four letters, as the big-endian number of its bytes, with the least byte that is
 /// shown as itself.
-#[derive(Drop)]
+#[derive(Clone, Copy)]
 pub struct Key<const LEAST: u8>(pub u32);
 
 /// A byte as a letter; what lies below the least byte shown, and what is no printable ASCII, is a question mark.

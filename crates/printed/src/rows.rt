@@ -19,7 +19,7 @@ pub struct Asked {
 }
 
 /// Why a row has no list of numbers.
-#[derive(Drop)]
+#[derive(Clone, Copy, PartialEq, Eq, Debug)]
 pub enum RowError {
     /// The row is refused.
     Refused(Fault),
