@@ -1,5 +1,6 @@
 //! The verb judge: a line for each file.
 ghost use Rattle.std.specs.Prelude.{◌≡◌, IfOk, string_bytes};
+ghost use Rattle.format.specs.Judging.{judged};
 ghost use Rattle.kutsvame.specs.Lines.{keys_of, verdict_text};
 
 use crate::failure::{Failure, read_file};
@@ -10,12 +11,13 @@ use reader::JudgedFile;
 use std::alloc::{AllocError, Global};
 use std::io;
 
-/// The keys of a file's blocks, where it is accepted.
+/// The keys of the blocks of a file that was judged so.
 fn block_keys(
     heap: Global,
     bytes: &[u8],
     verdict: Result<Layout, Fault>,
 ) -> Result<String, AllocError>
+    requires { verdict ≡ judged bytes.now }
     ensures { IfOk result (λ s. string_bytes s ≡ keys_of bytes.now verdict) }
 {
     match verdict {
