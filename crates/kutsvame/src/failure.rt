@@ -17,7 +17,7 @@ pub struct Unread<'a> {
     error: io::Error,
 }
 
-impl<'a> fmt::Display for Unread<'a> {
+impl fmt::Display for Unread<'_> {
     fn fmt<W: fmt::Write>(&self, f: &mut fmt::Formatter<W>) -> fmt::Result {
         write!(f, "{}: cannot be read: {}", self.name, self.error)
     }
@@ -44,24 +44,24 @@ pub enum Failure<'a> {
 }
 
 impl<'a> From<Unread<'a>> for Failure<'a> {
-    fn from(unread: Unread<'a>) -> Failure<'a> {
+    fn from(unread: Unread<'a>) -> Self {
         Failure::Unread(unread)
     }
 }
 
-impl<'a> From<io::Error> for Failure<'a> {
-    fn from(error: io::Error) -> Failure<'a> {
+impl From<io::Error> for Failure<'_> {
+    fn from(error: io::Error) -> Self {
         Failure::Io(error)
     }
 }
 
-impl<'a> From<AllocError> for Failure<'a> {
-    fn from(error: AllocError) -> Failure<'a> {
+impl From<AllocError> for Failure<'_> {
+    fn from(error: AllocError) -> Self {
         Failure::Io(error.into())
     }
 }
 
-impl<'a> Failure<'a> {
+impl Failure<'_> {
     /// Says on standard error why not all is done, unless a line of judge has said it; the status, or the error that ends
     /// the program.
     pub fn report(self, rt: &HostRuntime) -> io::Result<ExitCode> {
@@ -83,7 +83,7 @@ impl<'a> Failure<'a> {
 }
 
 /// The number below 2^64 that a word writes in decimal digits.
-pub fn number<'a>(word: &'a str) -> Result<usize, Failure<'a>>
+pub fn number(word: &str) -> Result<usize, Failure<'_>>
     ensures { Writes word.now (result_ok result) }
 {
     number_named(word).ok_or(Failure::Misused("no decimal number", word))

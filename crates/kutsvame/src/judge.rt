@@ -12,6 +12,7 @@ use std::alloc::{AllocError, Global};
 use std::io;
 
 /// The keys of the blocks of a file that was judged so.
+#[tactic(auto, using(crate::proofs::Blocks::whole_table))]
 fn block_keys(
     heap: Global,
     bytes: &[u8],
