@@ -25,33 +25,39 @@ pub struct FieldLine {
     pattern: u32,
 }
 
+/// CODAR's names of the fields, from field 1 on; there is no field 0.
+const NAMES: [&str; 21] = [
+    "",
+    "nDateTime",
+    "nCsKind",
+    "nSiteCodeName",
+    "nCoverMinutes",
+    "bDeletedSource",
+    "bOverrideSrcInfo",
+    "fStartFreqMHz",
+    "fRepFreqHz",
+    "fBandwidthKHz",
+    "bSweepUp",
+    "nDopplerCells",
+    "nRangeCells",
+    "nFirstRangeCell",
+    "fRangeCellDistKm",
+    "nOutputInterval",
+    "nCreateTypeCode",
+    "nCreatorVersion",
+    "nActiveChannels",
+    "nSpectraChannels",
+    "nActiveChanBits",
+];
+
 /// CODAR's name of a field; nothing is printed for a field that there is not.
-// A match and no table read by the number: at a constant of 21 strings the proof did not close, the check stopping at its limit of steps.
 fn field_name(number: usize) -> &'static str
     ensures { result.now ≡ name_of number }
 {
-    match number {
-        1 => "nDateTime",
-        2 => "nCsKind",
-        3 => "nSiteCodeName",
-        4 => "nCoverMinutes",
-        5 => "bDeletedSource",
-        6 => "bOverrideSrcInfo",
-        7 => "fStartFreqMHz",
-        8 => "fRepFreqHz",
-        9 => "fBandwidthKHz",
-        10 => "bSweepUp",
-        11 => "nDopplerCells",
-        12 => "nRangeCells",
-        13 => "nFirstRangeCell",
-        14 => "fRangeCellDistKm",
-        15 => "nOutputInterval",
-        16 => "nCreateTypeCode",
-        17 => "nCreatorVersion",
-        18 => "nActiveChannels",
-        19 => "nSpectraChannels",
-        20 => "nActiveChanBits",
-        _ => "",
+    if number < NAMES.len() {
+        NAMES[number]
+    } else {
+        ""
     }
 }
 
