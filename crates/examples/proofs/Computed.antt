@@ -3,6 +3,7 @@ use Rattle.std.proofs.Common.{refl}
 use Rattle.faults.specs.declared.refusal.Refusal.TheVariants.{ExtentsDisagree, BlockHeadCut, BlockDataCut}
 use Rattle.faults.specs.Faults.{fault, in_block}
 use Rattle.examples.specs.Worked.{Worked}
+use Rattle.examples.proofs.Told.{refused_with}
 
 pub worked : Worked
 worked =
@@ -21,7 +22,7 @@ worked =
       version_6 = record { accepted = refl; again = refl };
       version_7 = record { accepted = refl; again = refl };
       version_32 = record { accepted = refl; again = refl };
-      disagree = record { fault = fault ExtentsDisagree 12; refused = refl; number_is = refl; layer_is = refl; block_is = refl; place_is = refl };
-      head_cut = record { fault = in_block BlockHeadCut 2 116; refused = refl; number_is = refl; layer_is = refl; block_is = refl; place_is = refl };
-      data_cut = record { fault = in_block BlockDataCut 1 108; refused = refl; number_is = refl; layer_is = refl; block_is = refl; place_is = refl };
+      disagree = refused_with _ (fault ExtentsDisagree 12) refl;
+      head_cut = refused_with _ (in_block BlockHeadCut 2 116) refl;
+      data_cut = refused_with _ (in_block BlockDataCut 1 108) refl;
     }

@@ -14,7 +14,9 @@ use Rattle.reader.specs.Levels.{held, file_layout, row_conditions}
 use Rattle.records.specs.Fill.{fill_kind}
 use Rattle.records.specs.Loca.{loca_kind}
 use Rattle.examples.specs.FileM.{file_m}
-use Rattle.examples.specs.Readings.{Declined, RowSix, Readings}
+use Rattle.examples.specs.Readings.{RowSix, Readings}
+use Rattle.examples.specs.Refused.{Refused}
+use Rattle.examples.proofs.Told.{refused_with}
 
 -- M is a file
 held_m : held file_m ≡ Ok (layout_of file_m)
@@ -25,9 +27,9 @@ fill_m : look_answer fill_kind file_m 1 ≡ Ok (record { numbers = 1 ∷ 2 ∷ 2
 unfolding held file_layout
 fill_m = refl
 
-loca_m : Declined (look_answer loca_kind file_m 1) 12 4 1 104
+loca_m : Refused (look_answer loca_kind file_m 1) 12 4 1 104
 unfolding held file_layout
-loca_m = record { fault = in_block Key 1 104; refused = refl; number_is = refl; layer_is = refl; block_is = refl; place_is = refl }
+loca_m = refused_with _ (in_block Key 1 104) refl
 
 -- what is asked of row 6 of cell 1, and where it stands
 asked_six : (l : Layout) (quality : Bool) (level : ℕ) → l.version ≡ 4 → l.start ≡ 72 → l.sizes.bins ≡ 512 → l.sizes.quality ≡ quality → 1 ≤ l.sizes.ranges
@@ -40,7 +42,7 @@ row_six b l h v d n =
     let at = λ (level : ℕ). ap (λ (x : Result Layout Fault). x with λ m. all_of (row_conditions m level 1 6) then Ok (row_span m 1 6)) h in
     record {
       found = at 4 ∙ asked_six l l.sizes.quality 4 v d n refl (placed b l h).ranges_from;
-      unknown = record { fault = fault LayoutUnknown 0; refused = at 3 ∙ rw v refl; number_is = refl; layer_is = refl; block_is = refl; place_is = refl };
+      unknown = refused_with _ (fault LayoutUnknown 0) (at 3 ∙ rw v refl);
     }
 
 pub readings : Readings

@@ -1,3 +1,4 @@
 pub mod FileM
 pub mod Readings
+pub mod Refused
 pub mod Worked

@@ -1,26 +1,15 @@
 -- The worked examples of file M, stated of the definitions.
-use Rattle.std.specs.Prelude.{◌≡◌, ℕ, true, false, [], ◌∷◌, length, pos, is_ok, Ok, Err, codes, Result}
+use Rattle.std.specs.Prelude.{◌≡◌, true, false, [], ◌∷◌, length, pos, is_ok, Ok, codes}
 use Rattle.buffers.specs.Words.{int32}
-use Rattle.faults.specs.declared.fault.Fault.{Fault}
-use Rattle.faults.specs.Numbers.{number_of, layer_number}
-use Rattle.format.specs.declared.judging.Layout.{Layout}
 use Rattle.format.specs.Content.{Content, write, content}
 use Rattle.format.specs.Judging.{judged}
 use Rattle.examples.specs.FileM.{count, file_m, put32, sample, sample_blocks}
+use Rattle.examples.specs.Refused.{Refused}
 
 -- the bytes of a content are accepted, and that content is read from them again
 pub record Returns (c : Content) : Type 0 where
   pub accepted : is_ok (judged (write c)) ≡ true
   pub again : content (write c) ≡ c
-
--- refused with that number, layer, block and place
-pub record Refused (r : Result Layout Fault) (number layer block place : ℕ) : Type 0 where
-  pub fault : Fault
-  pub refused : r ≡ Err fault
-  pub number_is : number_of fault.refusal ≡ number
-  pub layer_is : layer_number fault.layer ≡ layer
-  pub block_is : fault.block ≡ block
-  pub place_is : fault.place ≡ place
 
 pub record Worked : Type 0 where
   -- M has 160 bytes

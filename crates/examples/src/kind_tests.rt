@@ -1,17 +1,17 @@
 //! The kinds of block: records at their lengths, texts at their limits, and looking at a block.
 use crate::example_file;
-use faults::Fault;
+use crate::refusals::refused;
 use kinds::{Kind, look_at};
 use records::{Fill, Fwin, Glrm, Loca, Rcvi, Supi, Time};
 use std::process::Abort;
 use std::test::Fail;
 use texts::{City, Sitd, Tool, Zone};
 
-/// Number and place of what reading refuses, or zeros, and then the bytes used.
-fn told<K: Kind>(bytes: &[u8]) -> (u8, usize, usize) {
+/// The bytes that reading uses, or number and place of what it refuses.
+fn told<K: Kind>(bytes: &[u8]) -> Result<usize, (u8, usize)> {
     match K::read(bytes) {
-        Ok(r) => (0, 0, r.used),
-        Err(f) => (f.refusal.number(), f.place, 0),
+        Ok(reading) => Ok(reading.used),
+        Err(fault) => Err((fault.refusal.number(), fault.place)),
     }
 }
 
@@ -19,9 +19,9 @@ fn told<K: Kind>(bytes: &[u8]) -> (u8, usize, usize) {
 fn at_its_length<K: Kind>(rt: &impl Abort, size: usize) {
     let bytes = [7u8; 64];
     assert!(rt; size > 0 && size < 64);
-    assert_eq!(rt; told::<K>(&bytes[0..size]), (0, 0, size));
-    assert_eq!(rt; told::<K>(&bytes[0..size - 1]), (13, size - 1, 0));
-    assert_eq!(rt; told::<K>(&bytes), (0, 0, size));
+    assert_eq!(rt; told::<K>(&bytes[0..size]), Ok(size));
+    assert_eq!(rt; told::<K>(&bytes[0..size - 1]), Err((13, size - 1)));
+    assert_eq!(rt; told::<K>(&bytes), Ok(size));
 }
 
 #[test]
@@ -58,18 +58,10 @@ fn a_record_is_written_and_read(rt: HostRuntime) -> Result<(), Fail> {
     let mut short = [9u8; 27];
     assert_eq!(rt;
         refused(<Supi as Kind>::write(supi, &[], &mut short)),
-        (22, 5, 28)
+        Some((22, 5, 0, 28))
     );
     assert_eq!(rt; short, [9u8; 27]);
     Ok(())
-}
-
-/// Number, layer and place of a refusal, or zeros.
-fn refused(res: Result<usize, Fault>) -> (u8, u8, usize) {
-    match res {
-        Ok(_) => (0, 0, 0),
-        Err(f) => (f.refusal.number(), f.layer.number(), f.place),
-    }
 }
 
 #[test]
@@ -96,16 +88,16 @@ fn time_is_read(rt: HostRuntime) -> Result<(), Fail> {
 #[test]
 fn texts_at_their_limits(rt: HostRuntime) -> Result<(), Fail> {
     let mut bytes = [65u8; 300];
-    assert_eq!(rt; told::<Zone>(&bytes), (14, 0, 0));
+    assert_eq!(rt; told::<Zone>(&bytes), Err((14, 0)));
     bytes[256] = 0;
-    assert_eq!(rt; told::<Zone>(&bytes), (14, 0, 0));
-    assert_eq!(rt; told::<City>(&bytes), (14, 0, 0));
-    assert_eq!(rt; told::<Tool>(&bytes), (14, 0, 0));
-    assert_eq!(rt; told::<Sitd>(&bytes), (0, 0, 257));
+    assert_eq!(rt; told::<Zone>(&bytes), Err((14, 0)));
+    assert_eq!(rt; told::<City>(&bytes), Err((14, 0)));
+    assert_eq!(rt; told::<Tool>(&bytes), Err((14, 0)));
+    assert_eq!(rt; told::<Sitd>(&bytes), Ok(257));
     bytes[255] = 0;
-    assert_eq!(rt; told::<Zone>(&bytes), (0, 0, 256));
-    assert_eq!(rt; told::<Zone>(&bytes[0..255]), (14, 0, 0));
-    assert_eq!(rt; told::<Sitd>(&[]), (14, 0, 0));
+    assert_eq!(rt; told::<Zone>(&bytes), Ok(256));
+    assert_eq!(rt; told::<Zone>(&bytes[0..255]), Err((14, 0)));
+    assert_eq!(rt; told::<Sitd>(&[]), Err((14, 0)));
     let gmt = <Zone as Kind>::read(b"GMT\0Q")?;
     assert_eq!(rt; (gmt.text, gmt.length, gmt.used), (0, 3, 4));
     Ok(())
@@ -114,25 +106,31 @@ fn texts_at_their_limits(rt: HostRuntime) -> Result<(), Fail> {
 #[test]
 fn texts_that_cannot_be_written(rt: HostRuntime) -> Result<(), Fail> {
     let long = [65u8; 300];
-    assert_eq!(rt;
-        refused(<Zone as Kind>::measure(Zone, &long[0..255])),
-        (0, 0, 0)
-    );
+    assert_eq!(rt; refused(<Zone as Kind>::measure(Zone, &long[0..255])), None);
     assert_eq!(rt;
         refused(<Zone as Kind>::measure(Zone, &long[0..256])),
-        (15, 5, 255)
+        Some((15, 5, 0, 255))
     );
-    assert_eq!(rt; refused(<City as Kind>::measure(City, b"A\0B")), (15, 5, 1));
-    assert_eq!(rt; refused(<Tool as Kind>::measure(Tool, b"\0")), (15, 5, 0));
-    assert_eq!(rt; refused(<Sitd as Kind>::measure(Sitd, &long)), (0, 0, 0));
+    assert_eq!(rt;
+        refused(<City as Kind>::measure(City, b"A\0B")),
+        Some((15, 5, 0, 1))
+    );
+    assert_eq!(rt;
+        refused(<Tool as Kind>::measure(Tool, b"\0")),
+        Some((15, 5, 0, 0))
+    );
+    assert_eq!(rt; refused(<Sitd as Kind>::measure(Sitd, &long)), None);
     let fill = <Fill as Kind>::read(&[1, 2, 2, 4])?.record;
-    assert_eq!(rt; refused(<Fill as Kind>::measure(fill, b"x")), (15, 5, 0));
+    assert_eq!(rt;
+        refused(<Fill as Kind>::measure(fill, b"x")),
+        Some((15, 5, 0, 0))
+    );
     let mut out = [9u8; 6];
     assert_eq!(rt; <Zone as Kind>::write(Zone, b"EST5", &mut out)?, 5);
     assert_eq!(rt; out, *b"EST5\0\x09");
     assert_eq!(rt;
         refused(<Zone as Kind>::write(Zone, b"EST5EDT", &mut out)),
-        (22, 5, 8)
+        Some((22, 5, 0, 8))
     );
     Ok(())
 }
@@ -140,22 +138,22 @@ fn texts_that_cannot_be_written(rt: HostRuntime) -> Result<(), Fail> {
 #[test]
 fn firmware_of_a_receiver(rt: HostRuntime) -> Result<(), Fail> {
     let mut bytes = [65u8; 50];
-    assert_eq!(rt; told::<Rcvi>(&bytes), (14, 16, 0));
+    assert_eq!(rt; told::<Rcvi>(&bytes), Err((14, 16)));
     bytes[48] = 0;
-    assert_eq!(rt; told::<Rcvi>(&bytes), (14, 16, 0));
+    assert_eq!(rt; told::<Rcvi>(&bytes), Err((14, 16)));
     bytes[47] = 0;
-    assert_eq!(rt; told::<Rcvi>(&bytes), (0, 0, 48));
-    assert_eq!(rt; told::<Rcvi>(&bytes[0..47]), (13, 47, 0));
+    assert_eq!(rt; told::<Rcvi>(&bytes), Ok(48));
+    assert_eq!(rt; told::<Rcvi>(&bytes[0..47]), Err((13, 47)));
     let read = <Rcvi as Kind>::read(&bytes)?;
     assert_eq!(rt; (read.text, read.length), (16, 31));
     let letters = [66u8; 32];
     assert_eq!(rt;
         refused(<Rcvi as Kind>::measure(read.record, &letters[0..31])),
-        (0, 0, 0)
+        None
     );
     assert_eq!(rt;
         refused(<Rcvi as Kind>::measure(read.record, &letters)),
-        (15, 5, 31)
+        Some((15, 5, 0, 31))
     );
     let mut out = [9u8; 48];
     assert_eq!(rt; <Rcvi as Kind>::write(read.record, b"Q", &mut out)?, 48);
@@ -169,41 +167,17 @@ fn blocks_are_looked_at(rt: HostRuntime) -> Result<(), Fail> {
     let fill = look_at::<Fill>(&file, 104, 1)?;
     assert_eq!(rt; (fill.text, fill.length, fill.used), (112, 0, 4));
     assert_eq!(rt; fill.record.doppler_multiple, 4);
-    let Err(key) = look_at::<Loca>(&file, 104, 1) else {
-        return Err(Fail::new("another key"));
-    };
     assert_eq!(rt;
-        (
-            key.refusal.number(),
-            key.layer.number(),
-            key.block,
-            key.place,
-        ),
-        (12, 4, 1, 104)
+        refused(look_at::<Loca>(&file, 104, 1)),
+        Some((12, 4, 1, 104))
     );
-    let Err(short) = look_at::<Fill>(b"FILL\0\0\0\x03abc", 0, 7) else {
-        return Err(Fail::new("too short"));
-    };
     assert_eq!(rt;
-        (
-            short.refusal.number(),
-            short.layer.number(),
-            short.block,
-            short.place,
-        ),
-        (13, 4, 7, 11)
+        refused(look_at::<Fill>(b"FILL\0\0\0\x03abc", 0, 7)),
+        Some((13, 4, 7, 11))
     );
-    let Err(none) = look_at::<Fill>(&file, 200, 1) else {
-        return Err(Fail::new("no block"));
-    };
     assert_eq!(rt;
-        (
-            none.refusal.number(),
-            none.layer.number(),
-            none.block,
-            none.place,
-        ),
-        (34, 5, 0, 0)
+        refused(look_at::<Fill>(&file, 200, 1)),
+        Some((34, 5, 0, 0))
     );
     Ok(())
 }

@@ -1,7 +1,7 @@
 //! The worked examples: file M, and what the definitions say of it.
 #![tactic(auto)]
 
-ghost use Rattle.std.specs.Prelude.{◌≡◌};
+ghost use Rattle.std.specs.Prelude.{◌≡◌, ◌<◌, set};
 ghost use Rattle.examples.specs.FileM.{file_m, put32};
 ghost use Rattle.examples.specs.Readings.{Readings};
 ghost use Rattle.examples.specs.Worked.{Worked};
@@ -33,27 +33,35 @@ pub fn example_file() -> [u8; 160]
     bytes_of_m()
 }
 
+/// File M with one byte changed.
+fn damaged(at: usize, byte: u8) -> [u8; 160]
+    requires { at < 160 }
+    ensures { result ≡ set file_m at byte }
+{
+    let mut bytes = example_file();
+    bytes[at] = byte;
+    bytes
+}
+
 /// File M with extent 2 one too small.
 pub fn example_with_extent() -> [u8; 160]
     ensures { result ≡ put32 file_m 12 107 }
 {
-    let mut bytes = example_file();
-    bytes[15] = 107;
-    bytes
+    damaged(15, 107)
 }
 
 /// File M with a section one byte too short for its blocks.
 pub fn example_with_section() -> [u8; 160]
     ensures { result ≡ put32 file_m 100 19 }
 {
-    let mut bytes = example_file();
-    bytes[103] = 19;
-    bytes
+    damaged(103, 19)
 }
 
 #[cfg(test)]
 mod kind_tests;
 #[cfg(test)]
 mod reader_tests;
+#[cfg(test)]
+mod refusals;
 #[cfg(test)]
 mod tests;

@@ -1,18 +1,10 @@
 //! Reading at a level: each answer and each refusal of the judged file, on M and on files of early versions.
 use crate::example_file;
-use faults::Fault;
+use crate::refusals::refused;
 use reader::{Entry, JudgedFile};
 use records::{Fill, Loca};
 use std::test::Fail;
 use texts::Zone;
-
-/// Number, layer, block and place of a refusal, or zeros.
-fn refused<T: Drop>(res: Result<T, Fault>) -> (u8, u8, usize, usize) {
-    match res {
-        Ok(_) => (0, 0, 0, 0),
-        Err(f) => (f.refusal.number(), f.layer.number(), f.block, f.place),
-    }
-}
 
 /// A version 4 file of two cells of one bin with quality, data at 80, and a gap of eight bytes before them.
 fn early_file() -> [u8; 160] {
@@ -27,8 +19,8 @@ fn early_file() -> [u8; 160] {
     bytes[59] = 2;
     bytes[63] = 1;
     bytes[71] = 8;
-    for i in 80..160 {
-        bytes[i] = (i % 256) as u8;
+    for (place, byte) in bytes.iter_mut().enumerate().skip(80) {
+        *byte = (place % 256) as u8;
     }
     bytes
 }
@@ -38,7 +30,7 @@ fn refused_bytes_answer_31(rt: HostRuntime) {
     let mut bytes = example_file();
     bytes[15] = 107;
     let file = JudgedFile::of(&bytes);
-    let none = (31, 5, 0, 0);
+    let none = Some((31, 5, 0, 0));
     assert_eq!(rt; refused(file.version()), none);
     assert_eq!(rt; refused(file.start(7)), none);
     assert_eq!(rt; refused(file.field(0, 0)), none);
@@ -59,11 +51,11 @@ fn levels_of_the_example(rt: HostRuntime) -> Result<(), Fail> {
     let bytes = example_file();
     let file = JudgedFile::of(&bytes);
     assert_eq!(rt; file.version()?, 6);
-    for level in 1..7 {
+    for level in 1..=6 {
         assert_eq!(rt; file.start(level)?, 124);
     }
-    assert_eq!(rt; refused(file.start(0)), (19, 5, 0, 0));
-    assert_eq!(rt; refused(file.start(7)), (19, 5, 0, 0));
+    assert_eq!(rt; refused(file.start(0)), Some((19, 5, 0, 0)));
+    assert_eq!(rt; refused(file.start(7)), Some((19, 5, 0, 0)));
     Ok(())
 }
 
@@ -73,16 +65,16 @@ fn fields_by_level(rt: HostRuntime) -> Result<(), Fail> {
     let file = JudgedFile::of(&bytes);
     assert_eq!(rt; file.field(2, 2)?, 1);
     assert_eq!(rt; file.field(6, 19)?, 3);
-    assert_eq!(rt; refused(file.field(7, 0)), (19, 5, 0, 0));
-    assert_eq!(rt; refused(file.field(6, 0)), (18, 5, 0, 0));
-    assert_eq!(rt; refused(file.field(1, 21)), (18, 5, 0, 0));
-    assert_eq!(rt; refused(file.field(1, 2)), (20, 5, 0, 0));
-    assert_eq!(rt; refused(file.field(4, 15)), (20, 5, 0, 0));
+    assert_eq!(rt; refused(file.field(7, 0)), Some((19, 5, 0, 0)));
+    assert_eq!(rt; refused(file.field(6, 0)), Some((18, 5, 0, 0)));
+    assert_eq!(rt; refused(file.field(1, 21)), Some((18, 5, 0, 0)));
+    assert_eq!(rt; refused(file.field(1, 2)), Some((20, 5, 0, 0)));
+    assert_eq!(rt; refused(file.field(4, 15)), Some((20, 5, 0, 0)));
     let early = early_file();
     let old = JudgedFile::of(&early);
     assert_eq!(rt; (old.field(1, 1)?, old.field(4, 12)?), (7, 2));
-    assert_eq!(rt; refused(old.field(5, 15)), (33, 5, 0, 0));
-    assert_eq!(rt; refused(old.field(4, 15)), (20, 5, 0, 0));
+    assert_eq!(rt; refused(old.field(5, 15)), Some((33, 5, 0, 0)));
+    assert_eq!(rt; refused(old.field(4, 15)), Some((20, 5, 0, 0)));
     Ok(())
 }
 
@@ -95,16 +87,16 @@ fn rows_of_an_early_file(rt: HostRuntime) -> Result<(), Fail> {
     assert_eq!(rt; file.row(6, 1, 7)?, (116, 4));
     assert_eq!(rt; file.row(6, 2, 6)?, (148, 8));
     assert_eq!(rt; file.row_part(4, 2, 7)?, [156u8, 157, 158, 159].as_slice());
-    assert_eq!(rt; refused(file.row(0, 1, 1)), (19, 5, 0, 0));
-    assert_eq!(rt; refused(file.row(3, 9, 1)), (37, 5, 0, 0));
-    assert_eq!(rt; refused(file.row(4, 0, 1)), (16, 5, 0, 0));
-    assert_eq!(rt; refused(file.row(4, 3, 1)), (16, 5, 0, 0));
-    assert_eq!(rt; refused(file.row(4, 1, 0)), (16, 5, 0, 0));
-    assert_eq!(rt; refused(file.row(4, 1, 8)), (16, 5, 0, 0));
+    assert_eq!(rt; refused(file.row(0, 1, 1)), Some((19, 5, 0, 0)));
+    assert_eq!(rt; refused(file.row(3, 9, 1)), Some((37, 5, 0, 0)));
+    assert_eq!(rt; refused(file.row(4, 0, 1)), Some((16, 5, 0, 0)));
+    assert_eq!(rt; refused(file.row(4, 3, 1)), Some((16, 5, 0, 0)));
+    assert_eq!(rt; refused(file.row(4, 1, 0)), Some((16, 5, 0, 0)));
+    assert_eq!(rt; refused(file.row(4, 1, 8)), Some((16, 5, 0, 0)));
     let bytes = example_file();
     let plain = JudgedFile::of(&bytes);
     assert_eq!(rt; plain.row(6, 1, 6)?, (152, 8));
-    assert_eq!(rt; refused(plain.row_part(6, 1, 7)), (16, 5, 0, 0));
+    assert_eq!(rt; refused(plain.row_part(6, 1, 7)), Some((16, 5, 0, 0)));
     Ok(())
 }
 
@@ -115,7 +107,7 @@ fn numbers_of_a_row(rt: HostRuntime) -> Result<(), Fail> {
     let mut list = [5u32; 3];
     assert_eq!(rt;
         refused(file.numbers(4, 1, 4, &mut list[0..1])),
-        (22, 5, 0, 2)
+        Some((22, 5, 0, 2))
     );
     assert_eq!(rt; list, [5, 5, 5]);
     file.numbers(4, 1, 4, &mut list)?;
@@ -141,18 +133,18 @@ fn blocks_of_the_example(rt: HostRuntime) -> Result<(), Fail> {
     };
     assert_eq!(rt; file.block(6, 1)?, fill);
     assert_eq!(rt; file.block(6, 2)?, xtra);
-    assert_eq!(rt; refused(file.block(0, 1)), (19, 5, 0, 0));
-    assert_eq!(rt; refused(file.block(5, 9)), (20, 5, 0, 0));
-    assert_eq!(rt; refused(file.block(6, 0)), (34, 5, 0, 0));
-    assert_eq!(rt; refused(file.block(6, 3)), (34, 5, 0, 0));
+    assert_eq!(rt; refused(file.block(0, 1)), Some((19, 5, 0, 0)));
+    assert_eq!(rt; refused(file.block(5, 9)), Some((20, 5, 0, 0)));
+    assert_eq!(rt; refused(file.block(6, 0)), Some((34, 5, 0, 0)));
+    assert_eq!(rt; refused(file.block(6, 3)), Some((34, 5, 0, 0)));
     let mut table = [fill; 3];
-    assert_eq!(rt; refused(file.table(&mut table[0..1])), (22, 5, 0, 2));
+    assert_eq!(rt; refused(file.table(&mut table[0..1])), Some((22, 5, 0, 2)));
     assert_eq!(rt; file.table(&mut table)?, 2);
     assert_eq!(rt; table, [fill, xtra, fill]);
     let early = early_file();
     let old = JudgedFile::of(&early);
-    assert_eq!(rt; refused(old.block(6, 1)), (33, 5, 0, 0));
-    assert_eq!(rt; refused(old.look::<Fill>(1)), (33, 5, 0, 0));
+    assert_eq!(rt; refused(old.block(6, 1)), Some((33, 5, 0, 0)));
+    assert_eq!(rt; refused(old.look::<Fill>(1)), Some((33, 5, 0, 0)));
     assert_eq!(rt; old.table(&mut table[0..0])?, 0);
     Ok(())
 }
@@ -165,15 +157,18 @@ fn blocks_looked_at(rt: HostRuntime) -> Result<(), Fail> {
     assert_eq!(rt; (fill.text, fill.length, fill.used), (112, 0, 4));
     assert_eq!(rt; fill.record.doppler_multiple, 4);
     assert_eq!(rt; file.text_part::<Fill>(1)?, b"".as_slice());
-    assert_eq!(rt; refused(file.look::<Loca>(1)), (12, 4, 1, 104));
-    assert_eq!(rt; refused(file.look::<Fill>(2)), (12, 4, 2, 116));
-    assert_eq!(rt; refused(file.look::<Fill>(3)), (34, 5, 0, 0));
+    assert_eq!(rt; refused(file.look::<Loca>(1)), Some((12, 4, 1, 104)));
+    assert_eq!(rt; refused(file.look::<Fill>(2)), Some((12, 4, 2, 116)));
+    assert_eq!(rt; refused(file.look::<Fill>(3)), Some((34, 5, 0, 0)));
     bytes[104..116].copy_from_slice(b"ZONE\0\0\0\x04GMT\0");
     let zone = JudgedFile::of(&bytes);
     assert_eq!(rt; zone.text_part::<Zone>(1)?, b"GMT".as_slice());
     bytes[115] = 90;
     let unended = JudgedFile::of(&bytes);
-    assert_eq!(rt; refused(unended.look::<Zone>(1)), (14, 4, 1, 112));
-    assert_eq!(rt; refused(unended.text_part::<Zone>(1)), (14, 4, 1, 112));
+    assert_eq!(rt; refused(unended.look::<Zone>(1)), Some((14, 4, 1, 112)));
+    assert_eq!(rt;
+        refused(unended.text_part::<Zone>(1)),
+        Some((14, 4, 1, 112))
+    );
     Ok(())
 }

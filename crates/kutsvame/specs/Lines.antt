@@ -1,9 +1,16 @@
 -- The line that is printed for a file.
-use Rattle.std.specs.Prelude.{ℕ, List, ◌++◌, Ok, Err, codes, Result}
+use Rattle.std.specs.Prelude.{ℕ, List, [], ◌++◌, Ok, Err, codes, Result}
 use Rattle.faults.specs.declared.fault.Fault.{Fault}
 use Rattle.faults.specs.Faults.{fault_text}
 use Rattle.format.specs.declared.judging.Layout.{Layout}
 use Rattle.format.specs.Shown.{layout_text}
+use Rattle.printed.specs.Keys.{keys_text}
+use Rattle.reader.specs.Answers.{entries}
+
+-- the keys of an accepted file's blocks, whose bytes from 33 on are shown as themselves; nothing of a file that is refused
+abbrev pub keys_of : List ℕ → Result Layout Fault → List ℕ
+keys_of b (Ok layout) = keys_text 33 (entries b layout.blocks)
+keys_of b (Err fault) = []
 
 -- the file's name, and its layout with the keys of its blocks, or its fault
 abbrev pub verdict_text : List ℕ → Result Layout Fault → List ℕ → List ℕ

@@ -1,11 +1,14 @@
--- The verbs of the command line.
-use Rattle.std.specs.Prelude.{◌≡◌, ℕ, ◌⊎◌, List, codes, ◌≢◌}
+-- Which word names which verb.
+use Rattle.std.specs.Prelude.{◌≡◌, ℕ, ◌⊎◌, List, Some, None, codes, Option, ◌≢◌}
 use Rattle.kutsvame.specs.declared.words.Verb.{Verb}
-use Rattle.kutsvame.specs.declared.words.Verb.TheVariants.{Judge, Help, Unknown}
+use Rattle.kutsvame.specs.declared.words.Verb.TheVariants.{Judge, Show, Row, Help}
 
--- the words that name a verb; any other word is unknown
-abbrev pub Names : List ℕ → Verb → Type 0
-Names word Judge = word ≡ codes "judge"
-Names word Help = (word ≡ codes "help") ⊎ ((word ≡ codes "--help") ⊎ (word ≡ codes "-h"))
-Names word Unknown =
-    (word ≢ codes "judge") × (word ≢ codes "help") × (word ≢ codes "--help") × (word ≢ codes "-h")
+-- the words that name a verb; any other word names none
+abbrev pub Names : List ℕ → Option Verb → Type 0
+Names word (Some Judge) = word ≡ codes "judge"
+Names word (Some Show) = word ≡ codes "show"
+Names word (Some Row) = word ≡ codes "row"
+Names word (Some Help) = (word ≡ codes "help") ⊎ ((word ≡ codes "--help") ⊎ (word ≡ codes "-h"))
+Names word None =
+    (word ≢ codes "judge") × (word ≢ codes "show") × (word ≢ codes "row")
+    × (word ≢ codes "help") × (word ≢ codes "--help") × (word ≢ codes "-h")

@@ -31,6 +31,7 @@ where
 
 /// Prints the line of a block, which is read as the kind that its key names.
 fn show_block(rt: &HostRuntime, file: &JudgedFile, head: Head) -> io::Result<()> {
+    // A match and no table: each arm is a call at a type of its own, and a table would hold the same eleven lines as pointers.
     match &head.1.key.to_be_bytes() {
         b"TIME" => show_kind::<Time>(rt, file, head),
         b"LOCA" => show_kind::<Loca>(rt, file, head),
@@ -61,8 +62,8 @@ pub fn show_blocks(
         return rt.println("this version has no blocks");
     }
     let table = block_table(rt.alloc(), file, layout.blocks)?;
-    for (i, entry) in table.iter().enumerate() {
-        show_block(rt, file, Head(i + 1, *entry))?;
+    for (number, entry) in (1..).zip(table.iter()) {
+        show_block(rt, file, Head(number, *entry))?;
     }
     Ok(())
 }

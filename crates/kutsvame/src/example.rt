@@ -8,16 +8,19 @@ pub fn judge_example(rt: &HostRuntime) -> io::Result<()> {
     rt.println(
         "The built-in example file M has 160 bytes. Judged whole, and with one byte changed:",
     )?;
-    judge_bytes(rt, "M", &example_file())?;
-    judge_bytes(
-        rt,
-        "M with extent 2 = 107 in place of 108",
-        &example_with_extent(),
-    )?;
-    judge_bytes(
-        rt,
-        "M with section size 19 in place of 20",
-        &example_with_section(),
-    )?;
+    let files = [
+        ("M", example_file()),
+        (
+            "M with extent 2 = 107 in place of 108",
+            example_with_extent(),
+        ),
+        (
+            "M with section size 19 in place of 20",
+            example_with_section(),
+        ),
+    ];
+    for (name, bytes) in files {
+        judge_bytes(rt, name, &bytes)?;
+    }
     Ok(())
 }

@@ -1,12 +1,34 @@
 //! The verb judge: a line for each file.
 ghost use Rattle.std.specs.Prelude.{◌≡◌, IfOk, string_bytes};
-ghost use Rattle.kutsvame.specs.Lines.{verdict_text};
+ghost use Rattle.format.specs.Judging.{judged};
+ghost use Rattle.kutsvame.specs.Lines.{keys_of, verdict_text};
 
-use crate::keys::key_list;
+use crate::failure::{Failure, read_file};
 use faults::Fault;
 use format::{Layout, judge};
+use printed::{PAST_SPACE, block_table, key_list};
+use reader::JudgedFile;
 use std::alloc::{AllocError, Global};
-use std::{fs, io};
+use std::io;
+
+/// The keys of the blocks of a file that was judged so.
+#[tactic(auto, using(crate::proofs::Blocks::whole_table))]
+fn block_keys(
+    heap: Global,
+    bytes: &[u8],
+    verdict: Result<Layout, Fault>,
+) -> Result<String, AllocError>
+    requires { verdict ≡ judged bytes.now }
+    ensures { IfOk result (λ s. string_bytes s ≡ keys_of bytes.now verdict) }
+{
+    match verdict {
+        Ok(layout) => {
+            let table = block_table(heap, &JudgedFile::of(bytes), layout.blocks)?;
+            key_list::<PAST_SPACE>(heap, table.as_slice())
+        }
+        Err(_) => Ok(String::new(heap)),
+    }
+}
 
 /// The line for a file of that name: its layout and the keys of its blocks, or the rule that it breaks.
 fn verdict_line(
@@ -23,35 +45,33 @@ fn verdict_line(
     }
 }
 
-/// Judges the bytes of a file and prints the line for it; false if it is refused.
+/// Judges the bytes of a file and prints the line for it; whether the file is accepted.
 pub fn judge_bytes(rt: &HostRuntime, name: &str, bytes: &[u8]) -> io::Result<bool> {
     let heap = rt.alloc();
     let verdict = judge(bytes);
-    let keys = match verdict {
-        Ok(layout) => key_list(heap, bytes, layout)?,
-        Err(_) => String::new(heap),
-    };
+    let keys = block_keys(heap, bytes, verdict)?;
     rt.println(verdict_line(heap, name, verdict, keys.as_str())?)?;
     Ok(verdict.is_ok())
 }
 
-/// Prints the line for a file; false if it is refused or cannot be read.
+/// Prints the line for a file; whether it is read and accepted.
 fn judge_file(rt: &HostRuntime, name: &str) -> io::Result<bool> {
-    match fs::read(rt, name) {
+    match read_file(rt, name) {
         Ok(bytes) => judge_bytes(rt, name, bytes.as_slice()),
-        Err(error) => {
-            println!(rt; "{name}: cannot be read: {error}")?;
+        Err(unread) => {
+            rt.println(unread)?;
             Ok(false)
         }
     }
 }
 
-/// Prints a line for each file; false if one is refused or cannot be read.
-pub fn judge_files(rt: &HostRuntime, names: &[String]) -> io::Result<bool> {
-    let mut all = true;
+/// Prints a line for each file; fails, once all are judged, if one of them is refused or cannot be read.
+pub fn judge_files<'a>(rt: &HostRuntime, names: &'a [String]) -> Result<(), Failure<'a>> {
+    let mut outcome = Ok(());
     for name in names {
-        let accepted = judge_file(rt, name.as_str())?;
-        all = all && accepted;
+        if !judge_file(rt, name.as_str())? {
+            outcome = Err(Failure::Judged);
+        }
     }
-    Ok(all)
+    outcome
 }

@@ -3,52 +3,48 @@
 
 mod blocks_shown;
 mod example;
+mod failure;
 mod help;
 mod judge;
-mod keys;
-mod misuse;
-mod refused;
 mod row;
 mod show;
 mod words;
 
 use example::judge_example;
+use failure::Failure;
 use help::HELP;
 use judge::judge_files;
-use misuse::misused;
 use row::row_words;
 use show::show_words;
 use std::process::ExitCode;
 use std::{env, io};
-use words::{Question, Verb, question_named, verb_named};
+use words::Verb;
 
-/// Does what the words ask; false where the status is to be 1.
-fn run(rt: &HostRuntime) -> io::Result<bool> {
-    let words: Vec<String> = env::args(rt)?.skip(1).collect(rt.alloc())?;
-    let Some(word) = words.first() else {
+/// Does what the words ask.
+fn run<'a>(rt: &HostRuntime, words: &'a [String]) -> Result<(), Failure<'a>> {
+    let Some((word, others)) = words.split_first() else {
         judge_example(rt)?;
-        return Ok(true);
+        return Ok(());
     };
-    match question_named(word.as_str()) {
-        Some(Question::Show) => return show_words(rt, &words[1..]),
-        Some(Question::Row) => return row_words(rt, &words[1..]),
-        None => {}
-    }
-    match verb_named(word.as_str()) {
-        Verb::Judge if words.len() > 1 => judge_files(rt, &words[1..]),
-        Verb::Judge => misused(rt, "no file is named", word.as_str()),
-        Verb::Help => {
-            rt.print(HELP)?;
-            Ok(true)
+    match Verb::named(word.as_str()) {
+        Some(Verb::Judge) if others.is_empty() => {
+            Err(Failure::Misused("no file is named", word.as_str()))
         }
-        Verb::Unknown => misused(rt, "unknown word", word.as_str()),
+        Some(Verb::Judge) => judge_files(rt, others),
+        Some(Verb::Show) => show_words(rt, others),
+        Some(Verb::Row) => row_words(rt, others),
+        Some(Verb::Help) => {
+            rt.print(HELP)?;
+            Ok(())
+        }
+        None => Err(Failure::Misused("unknown word", word.as_str())),
     }
 }
 
 fn main(rt: HostRuntime) -> io::Result<ExitCode> {
-    if run(&rt)? {
-        Ok(ExitCode::SUCCESS)
-    } else {
-        Ok(ExitCode::FAILURE)
+    let words: Vec<String> = env::args(&rt)?.skip(1).collect(rt.alloc())?;
+    match run(&rt, words.as_slice()) {
+        Ok(()) => Ok(ExitCode::SUCCESS),
+        Err(failure) => failure.report(&rt),
     }
 }

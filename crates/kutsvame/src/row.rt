@@ -1,9 +1,8 @@
 //! The verb row: the numbers of a row.
-use crate::misuse::misused;
-use crate::refused::{read_file, refuse};
-use crate::words::{LEVEL, number_named};
+use crate::failure::{Failure, number, read_file};
+use crate::words::LEVEL;
 use format::judge;
-use printed::{Asked, row_patterns};
+use printed::{Asked, RowError, row_patterns};
 use reader::JudgedFile;
 use std::io;
 use std::num::f32_from_bits_with_nan;
@@ -17,40 +16,28 @@ fn print_numbers(rt: &HostRuntime, patterns: &[u32]) -> io::Result<()> {
     Ok(())
 }
 
-/// Prints the row that is asked for; false if file or row are refused, or the file cannot be read.
-fn row_of_file(rt: &HostRuntime, name: &str, asked: Asked) -> io::Result<bool> {
-    let Some(bytes) = read_file(rt, name)? else {
-        return Ok(false);
-    };
-    if let Err(fault) = judge(bytes.as_slice()) {
-        return refuse(rt, name, fault);
-    }
-    match row_patterns(rt.alloc(), &JudgedFile::of(bytes.as_slice()), asked)? {
-        Ok(patterns) => {
-            print_numbers(rt, patterns.as_slice())?;
-            Ok(true)
-        }
-        Err(fault) => refuse(rt, name, fault),
+/// Prints the row that is asked for.
+fn row_of_file<'a>(rt: &HostRuntime, name: &'a str, asked: Asked) -> Result<(), Failure<'a>> {
+    let bytes = read_file(rt, name)?;
+    judge(bytes.as_slice()).map_err(|fault| Failure::Refused(name, fault))?;
+    match row_patterns(rt.alloc(), &JudgedFile::of(bytes.as_slice()), asked) {
+        Ok(patterns) => Ok(print_numbers(rt, patterns.as_slice())?),
+        Err(RowError::Refused(fault)) => Err(Failure::Refused(name, fault)),
+        Err(RowError::OutOfMemory(error)) => Err(Failure::from(error)),
     }
 }
 
-/// What the words CELL ROW [LEVEL] ask for; else the first of them that is no number.
-fn row_asked<'a>(cell: &'a str, row: &'a str, level: &'a str) -> Result<Asked, &'a str> {
-    let cell = number_named(cell).ok_or(cell)?;
-    let row = number_named(row).ok_or(row)?;
-    let level = number_named(level).ok_or(level)?;
-    Ok(Asked { cell, row, level })
-}
-
-/// Does what the words FILE CELL ROW [LEVEL] ask; false where the status is to be 1.
-pub fn row_words(rt: &HostRuntime, words: &[String]) -> io::Result<bool> {
-    let (file, asked) = match words {
-        [file, cell, row] => (file, row_asked(cell.as_str(), row.as_str(), LEVEL)),
-        [file, cell, row, level] => (file, row_asked(cell.as_str(), row.as_str(), level.as_str())),
-        _ => return misused(rt, "wrong count of words", "row"),
+/// Does what the words FILE CELL ROW [LEVEL] ask.
+pub fn row_words<'a>(rt: &HostRuntime, words: &'a [String]) -> Result<(), Failure<'a>> {
+    let (file, cell, row, level) = match words {
+        [file, cell, row] => (file, number(cell.as_str())?, number(row.as_str())?, LEVEL),
+        [file, cell, row, level] => (
+            file,
+            number(cell.as_str())?,
+            number(row.as_str())?,
+            number(level.as_str())?,
+        ),
+        _ => return Err(Failure::Misused("wrong count of words", "row")),
     };
-    match asked {
-        Ok(asked) => row_of_file(rt, file.as_str(), asked),
-        Err(word) => misused(rt, "no decimal number", word),
-    }
+    row_of_file(rt, file.as_str(), Asked { cell, row, level })
 }

@@ -1,8 +1,7 @@
 //! The verb show: the sizes, fields and blocks of a file, as a reader of a level sees them.
 use crate::blocks_shown::show_blocks;
-use crate::misuse::misused;
-use crate::refused::{read_file, refuse};
-use crate::words::{LEVEL, number_named};
+use crate::failure::{Failure, number, read_file};
+use crate::words::LEVEL;
 use format::{Layout, judge};
 use printed::{FieldLine, Opening, SizesText};
 use reader::JudgedFile;
@@ -18,19 +17,18 @@ fn show_fields(rt: &HostRuntime, file: &JudgedFile, level: usize) -> io::Result<
     Ok(())
 }
 
-/// Prints what a reader of that level sees in an accepted file; false if there is no such level.
-fn show_accepted(
+/// Prints what a reader of that level sees in an accepted file.
+fn show_accepted<'a>(
     rt: &HostRuntime,
-    name: &str,
+    name: &'a str,
     bytes: &[u8],
     layout: Layout,
     level: usize,
-) -> io::Result<bool> {
+) -> Result<(), Failure<'a>> {
     let file = JudgedFile::of(bytes);
-    let start = match file.start(level) {
-        Ok(start) => start,
-        Err(fault) => return refuse(rt, name, fault),
-    };
+    let start = file
+        .start(level)
+        .map_err(|fault| Failure::Refused(name, fault))?;
     let version = layout.version;
     rt.println(Opening {
         version,
@@ -43,28 +41,21 @@ fn show_accepted(
     }
     show_fields(rt, &file, level)?;
     show_blocks(rt, &file, layout, level)?;
-    Ok(true)
+    Ok(())
 }
 
-/// Prints what a reader of the level that the word writes sees in a file; false where the status is to be 1.
-fn show_file(rt: &HostRuntime, name: &str, level: &str) -> io::Result<bool> {
-    let Some(level) = number_named(level) else {
-        return misused(rt, "no decimal number", level);
-    };
-    let Some(bytes) = read_file(rt, name)? else {
-        return Ok(false);
-    };
-    match judge(bytes.as_slice()) {
-        Ok(layout) => show_accepted(rt, name, bytes.as_slice(), layout, level),
-        Err(fault) => refuse(rt, name, fault),
-    }
+/// Prints what a reader of that level sees in a file.
+fn show_file<'a>(rt: &HostRuntime, name: &'a str, level: usize) -> Result<(), Failure<'a>> {
+    let bytes = read_file(rt, name)?;
+    let layout = judge(bytes.as_slice()).map_err(|fault| Failure::Refused(name, fault))?;
+    show_accepted(rt, name, bytes.as_slice(), layout, level)
 }
 
-/// Does what the words FILE [LEVEL] ask; false where the status is to be 1.
-pub fn show_words(rt: &HostRuntime, words: &[String]) -> io::Result<bool> {
+/// Does what the words FILE [LEVEL] ask.
+pub fn show_words<'a>(rt: &HostRuntime, words: &'a [String]) -> Result<(), Failure<'a>> {
     match words {
         [file] => show_file(rt, file.as_str(), LEVEL),
-        [file, level] => show_file(rt, file.as_str(), level.as_str()),
-        _ => misused(rt, "wrong count of words", "show"),
+        [file, level] => show_file(rt, file.as_str(), number(level.as_str())?),
+        _ => Err(Failure::Misused("wrong count of words", "show")),
     }
 }

@@ -1,5 +1,4 @@
 //! The words of the command line.
-ghost use Rattle.kutsvame.specs.Questions.{Asks};
 ghost use Rattle.kutsvame.specs.Verbs.{Names};
 ghost use Rattle.kutsvame.specs.Words.{Writes};
 
@@ -8,45 +7,31 @@ ghost use Rattle.kutsvame.specs.Words.{Writes};
 pub enum Verb {
     /// Judge the files that the other words name.
     Judge,
-    /// Print the help text.
-    Help,
-    /// No verb of the program.
-    Unknown,
-}
-
-/// The verb that a word names.
-pub fn verb_named(word: &str) -> Verb
-    ensures { Names word.now result }
-{
-    match word {
-        "judge" => Verb::Judge,
-        "help" | "--help" | "-h" => Verb::Help,
-        _ => Verb::Unknown,
-    }
-}
-
-/// What is asked of one file.
-#[derive(Drop)]
-pub enum Question {
     /// Show the header and the blocks of a file.
     Show,
     /// Print the numbers of a row.
     Row,
+    /// Print the help text.
+    Help,
 }
 
-/// The question that a word names.
-pub fn question_named(word: &str) -> Option<Question>
-    ensures { Asks word.now result }
-{
-    match word {
-        "show" => Some(Question::Show),
-        "row" => Some(Question::Row),
-        _ => None,
+impl Verb {
+    /// The verb that a word names.
+    pub fn named(word: &str) -> Option<Verb>
+        ensures { Names word.now result }
+    {
+        match word {
+            "judge" => Some(Verb::Judge),
+            "show" => Some(Verb::Show),
+            "row" => Some(Verb::Row),
+            "help" | "--help" | "-h" => Some(Verb::Help),
+            _ => None,
+        }
     }
 }
 
 /// The level of a reader that is given none: the highest.
-pub const LEVEL: &str = "6";
+pub const LEVEL: usize = 6;
 
 /// The number below 2^64 that a word writes in decimal digits; nothing where it writes none.
 pub fn number_named(word: &str) -> Option<usize>

@@ -2,12 +2,12 @@
 ghost use Rattle.std.specs.Prelude.{◌≡◌};
 ghost use Rattle.printed.specs.Fields.{name_of, form_of, field_text};
 
-use crate::keys::Key;
+use crate::keys::{FROM_SPACE, Key};
 use std::fmt;
 use std::num::f32_from_bits_with_nan;
 
 /// How the pattern of a field is printed.
-#[derive(Drop)]
+#[derive(Clone, Copy, PartialEq, Eq, Debug)]
 pub enum Form {
     /// As an unsigned number.
     Number,
@@ -25,32 +25,39 @@ pub struct FieldLine {
     pattern: u32,
 }
 
-/// CODAR's name of a field.
+/// CODAR's names of the fields, from field 1 on; there is no field 0.
+const NAMES: [&str; 21] = [
+    "",
+    "nDateTime",
+    "nCsKind",
+    "nSiteCodeName",
+    "nCoverMinutes",
+    "bDeletedSource",
+    "bOverrideSrcInfo",
+    "fStartFreqMHz",
+    "fRepFreqHz",
+    "fBandwidthKHz",
+    "bSweepUp",
+    "nDopplerCells",
+    "nRangeCells",
+    "nFirstRangeCell",
+    "fRangeCellDistKm",
+    "nOutputInterval",
+    "nCreateTypeCode",
+    "nCreatorVersion",
+    "nActiveChannels",
+    "nSpectraChannels",
+    "nActiveChanBits",
+];
+
+/// CODAR's name of a field; nothing is printed for a field that there is not.
 fn field_name(number: usize) -> &'static str
     ensures { result.now ≡ name_of number }
 {
-    match number {
-        1 => "nDateTime",
-        2 => "nCsKind",
-        3 => "nSiteCodeName",
-        4 => "nCoverMinutes",
-        5 => "bDeletedSource",
-        6 => "bOverrideSrcInfo",
-        7 => "fStartFreqMHz",
-        8 => "fRepFreqHz",
-        9 => "fBandwidthKHz",
-        10 => "bSweepUp",
-        11 => "nDopplerCells",
-        12 => "nRangeCells",
-        13 => "nFirstRangeCell",
-        14 => "fRangeCellDistKm",
-        15 => "nOutputInterval",
-        16 => "nCreateTypeCode",
-        17 => "nCreatorVersion",
-        18 => "nActiveChannels",
-        19 => "nSpectraChannels",
-        20 => "nActiveChanBits",
-        _ => "",
+    if number < NAMES.len() {
+        NAMES[number]
+    } else {
+        ""
     }
 }
 
@@ -88,7 +95,7 @@ impl fmt::Display for FieldLine {
         match self.form {
             Form::Number => write!(f, "field {number} {name}: {pattern}"),
             Form::Letters => {
-                let letters = Key(pattern);
+                let letters = Key::<FROM_SPACE>(pattern);
                 write!(f, "field {number} {name}: {pattern} \"{letters}\"")
             }
             Form::Float => {

@@ -2,7 +2,7 @@
 ghost use Rattle.std.specs.Prelude.{Some};
 ghost use Rattle.printed.specs.Blocks.{head_text};
 
-use crate::keys::Key;
+use crate::keys::{FROM_SPACE, Key};
 use reader::Entry;
 use std::fmt;
 
@@ -14,10 +14,12 @@ impl fmt::Display for Head {
     ghost output = { λ x. Some (head_text x.0 x.1) };
 
     fn fmt<W: fmt::Write>(&self, f: &mut fmt::Formatter<W>) -> fmt::Result {
-        let number = self.0;
-        let key = Key(self.1.key);
-        let place = self.1.place;
-        let size = self.1.size;
-        write!(f, "block {number} {key} at {place}, size {size}")
+        let Head(number, entry) = self;
+        let key = Key::<FROM_SPACE>(entry.key);
+        write!(
+            f,
+            "block {number} {key} at {}, size {}",
+            entry.place, entry.size
+        )
     }
 }

@@ -6,45 +6,48 @@ use reader::Entry;
 use std::alloc::{AllocError, Global};
 use std::fmt;
 
-/// A block's key or another code of four letters, as the big-endian number of its bytes.
-#[derive(Drop)]
-pub struct Key(pub u32);
+/// The least byte that `show` prints as itself: a space.
+pub const FROM_SPACE: u8 = 32;
 
-/// A byte as a letter; what is no printable ASCII is shown as a question mark.
-pub fn letter(byte: u8) -> char
-    ensures { result ≡ letter_of byte }
+/// The least byte that a line of `judge` prints as itself: the one behind a space.
+pub const PAST_SPACE: u8 = 33;
+
+/// A block's key or another code of four letters, as the big-endian number of its bytes, with the least byte that is
+/// shown as itself.
+#[derive(Clone, Copy)]
+pub struct Key<const LEAST: u8>(pub u32);
+
+/// A byte as a letter; what lies below the least byte shown, and what is no printable ASCII, is a question mark.
+pub fn letter<const LEAST: u8>(byte: u8) -> char
+    ensures { result ≡ letter_of LEAST byte }
 {
-    if byte > 31 && byte < 127 {
+    if byte >= LEAST && byte < 127 {
         byte as char
     } else {
         '?'
     }
 }
 
-impl fmt::Display for Key {
-    ghost output = { λ x. Some (key_text x.0) };
+impl<const LEAST: u8> fmt::Display for Key<LEAST> {
+    ghost output = { λ x. Some (key_text LEAST x.0) };
 
     fn fmt<W: fmt::Write>(&self, f: &mut fmt::Formatter<W>) -> fmt::Result {
-        let bytes = self.0.to_be_bytes();
-        let a = letter(bytes[0]);
-        let b = letter(bytes[1]);
-        let c = letter(bytes[2]);
-        let d = letter(bytes[3]);
+        let [a, b, c, d] = self.0.to_be_bytes().map(letter::<LEAST>);
         write!(f, "{a}{b}{c}{d}")
     }
 }
 
 /// The keys of blocks in order, as `: FILL, XTRA`; nothing where there are none.
-pub fn key_list(heap: Global, table: &[Entry]) -> Result<String, AllocError>
-    ensures { IfOk result (λ s. string_bytes s ≡ keys_text table.now) }
+pub fn key_list<const LEAST: u8>(heap: Global, table: &[Entry]) -> Result<String, AllocError>
+    ensures { IfOk result (λ s. string_bytes s ≡ keys_text LEAST table.now) }
 {
     let Some((first, rest)) = table.split_first() else {
         return Ok(String::new(heap));
     };
-    let key = Key(first.key);
+    let key = Key::<LEAST>(first.key);
     let mut list = format!(in heap; ": {key}")?;
     for entry in rest {
-        let key = Key(entry.key);
+        let key = Key::<LEAST>(entry.key);
         let more = format!(in heap; ", {key}")?;
         list.push_str(more.as_str())?;
     }

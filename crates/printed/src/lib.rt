@@ -12,9 +12,9 @@ mod table;
 
 pub use fields::{FieldLine, Form};
 pub use heads::Head;
-pub use keys::{Key, key_list, letter};
+pub use keys::{FROM_SPACE, Key, PAST_SPACE, key_list, letter};
 pub use named::{Named, quoted};
 pub use overview::{Opening, SizesText};
 pub use refused::Refused;
-pub use rows::{Asked, row_patterns};
+pub use rows::{Asked, RowError, row_patterns};
 pub use table::block_table;

@@ -2,7 +2,7 @@
 ghost use Rattle.std.specs.Prelude.{◌≡◌, IfOk, Some, string_bytes};
 ghost use Rattle.printed.specs.Blocks.{quoted_text, fill_text};
 
-use crate::keys::letter;
+use crate::keys::{FROM_SPACE, letter};
 use records::{Fill, Fwin, Glrm, Loca, Rcvi, Supi, Time};
 use std::alloc::{AllocError, Global};
 use std::fmt;
@@ -19,7 +19,7 @@ pub fn quoted(heap: Global, text: &[u8]) -> Result<String, AllocError>
 {
     let mut quoted = String::from_str(heap, "\"")?;
     for byte in text {
-        quoted.push(letter(*byte))?;
+        quoted.push(letter::<FROM_SPACE>(*byte))?;
     }
     quoted.push('"')?;
     Ok(quoted)
@@ -27,92 +27,98 @@ pub fn quoted(heap: Global, text: &[u8]) -> Result<String, AllocError>
 
 impl fmt::Display for Named<Time> {
     fn fmt<W: fmt::Write>(&self, f: &mut fmt::Formatter<W>) -> fmt::Result {
-        let mark = self.0.mark;
-        let year = self.0.year;
-        let month = self.0.month;
-        let day = self.0.day;
-        let hour = self.0.hour;
-        let minute = self.0.minute;
-        let seconds = f64_from_bits_with_nan(self.0.seconds);
-        let coverage = f64_from_bits_with_nan(self.0.coverage);
-        let utc = f64_from_bits_with_nan(self.0.utc);
+        let time = self.0;
         write!(
             f,
-            "mark {mark}, year {year}, month {month}, day {day}, hour {hour}, minute {minute}, seconds {seconds}, coverage {coverage}, utc {utc}"
+            "mark {}, year {}, month {}, day {}, hour {}, minute {}, seconds {}, coverage {}, utc {}",
+            time.mark,
+            time.year,
+            time.month,
+            time.day,
+            time.hour,
+            time.minute,
+            f64_from_bits_with_nan(time.seconds),
+            f64_from_bits_with_nan(time.coverage),
+            f64_from_bits_with_nan(time.utc),
         )
     }
 }
 
 impl fmt::Display for Named<Loca> {
     fn fmt<W: fmt::Write>(&self, f: &mut fmt::Formatter<W>) -> fmt::Result {
-        let latitude = f64_from_bits_with_nan(self.0.latitude);
-        let longitude = f64_from_bits_with_nan(self.0.longitude);
-        let altitude = f64_from_bits_with_nan(self.0.altitude);
+        let loca = self.0;
         write!(
             f,
-            "latitude {latitude}, longitude {longitude}, altitude {altitude}"
+            "latitude {}, longitude {}, altitude {}",
+            f64_from_bits_with_nan(loca.latitude),
+            f64_from_bits_with_nan(loca.longitude),
+            f64_from_bits_with_nan(loca.altitude),
         )
     }
 }
 
 impl fmt::Display for Named<Rcvi> {
     fn fmt<W: fmt::Write>(&self, f: &mut fmt::Formatter<W>) -> fmt::Result {
-        let receiver = self.0.receiver;
-        let antenna = self.0.antenna;
-        let gain = f64_from_bits_with_nan(self.0.gain);
-        let firmware = self.1.as_str();
+        let rcvi = self.0;
         write!(
             f,
-            "receiver {receiver}, antenna {antenna}, gain {gain}, firmware {firmware}"
+            "receiver {}, antenna {}, gain {}, firmware {}",
+            rcvi.receiver,
+            rcvi.antenna,
+            f64_from_bits_with_nan(rcvi.gain),
+            self.1.as_str(),
         )
     }
 }
 
 impl fmt::Display for Named<Glrm> {
     fn fmt<W: fmt::Write>(&self, f: &mut fmt::Formatter<W>) -> fmt::Result {
-        let method = self.0.method;
-        let version = self.0.version;
-        let points = self.0.points;
-        let times = self.0.times;
-        let segments = self.0.segments;
-        let point_power = f64_from_bits_with_nan(self.0.point_power);
-        let range_power = f64_from_bits_with_nan(self.0.range_power);
-        let range_bin = f64_from_bits_with_nan(self.0.range_bin);
-        let remove_dc = self.0.remove_dc;
+        let glrm = self.0;
         write!(
             f,
-            "method {method}, version {version}, points {points}, times {times}, segments {segments}, point_power {point_power}, range_power {range_power}, range_bin {range_bin}, remove_dc {remove_dc}"
+            "method {}, version {}, points {}, times {}, segments {}, point_power {}, range_power {}, range_bin {}, remove_dc {}",
+            glrm.method,
+            glrm.version,
+            glrm.points,
+            glrm.times,
+            glrm.segments,
+            f64_from_bits_with_nan(glrm.point_power),
+            f64_from_bits_with_nan(glrm.range_power),
+            f64_from_bits_with_nan(glrm.range_bin),
+            glrm.remove_dc,
         )
     }
 }
 
 impl fmt::Display for Named<Supi> {
     fn fmt<W: fmt::Write>(&self, f: &mut fmt::Formatter<W>) -> fmt::Result {
-        let method = self.0.method;
-        let version = self.0.version;
-        let mode = self.0.mode;
-        let debug_mode = self.0.debug_mode;
-        let cells = self.0.cells;
-        let power = f64_from_bits_with_nan(self.0.power);
-        let range_bin = f64_from_bits_with_nan(self.0.range_bin);
-        let banding = self.0.banding;
-        let smoothing = self.0.smoothing;
+        let supi = self.0;
         write!(
             f,
-            "method {method}, version {version}, mode {mode}, debug_mode {debug_mode}, cells {cells}, power {power}, range_bin {range_bin}, banding {banding}, smoothing {smoothing}"
+            "method {}, version {}, mode {}, debug_mode {}, cells {}, power {}, range_bin {}, banding {}, smoothing {}",
+            supi.method,
+            supi.version,
+            supi.mode,
+            supi.debug_mode,
+            supi.cells,
+            f64_from_bits_with_nan(supi.power),
+            f64_from_bits_with_nan(supi.range_bin),
+            supi.banding,
+            supi.smoothing,
         )
     }
 }
 
 impl fmt::Display for Named<Fwin> {
     fn fmt<W: fmt::Write>(&self, f: &mut fmt::Formatter<W>) -> fmt::Result {
-        let range = self.0.range;
-        let doppler = self.0.doppler;
-        let range_parameter = f64_from_bits_with_nan(self.0.range_parameter);
-        let doppler_parameter = f64_from_bits_with_nan(self.0.doppler_parameter);
+        let fwin = self.0;
         write!(
             f,
-            "range {range}, doppler {doppler}, range_parameter {range_parameter}, doppler_parameter {doppler_parameter}"
+            "range {}, doppler {}, range_parameter {}, doppler_parameter {}",
+            fwin.range,
+            fwin.doppler,
+            f64_from_bits_with_nan(fwin.range_parameter),
+            f64_from_bits_with_nan(fwin.doppler_parameter),
         )
     }
 }
@@ -121,13 +127,11 @@ impl fmt::Display for Named<Fill> {
     ghost output = { λ x. Some (fill_text x.0) };
 
     fn fmt<W: fmt::Write>(&self, f: &mut fmt::Formatter<W>) -> fmt::Result {
-        let range_method = self.0.range_method;
-        let range_multiple = self.0.range_multiple;
-        let doppler_method = self.0.doppler_method;
-        let doppler_multiple = self.0.doppler_multiple;
+        let fill = self.0;
         write!(
             f,
-            "range_method {range_method}, range_multiple {range_multiple}, doppler_method {doppler_method}, doppler_multiple {doppler_multiple}"
+            "range_method {}, range_multiple {}, doppler_method {}, doppler_multiple {}",
+            fill.range_method, fill.range_multiple, fill.doppler_method, fill.doppler_multiple,
         )
     }
 }

@@ -32,12 +32,10 @@ impl fmt::Display for Opening {
     ghost output = { λ x. Some (opening_text x.version x.level x.start) };
 
     fn fmt<W: fmt::Write>(&self, f: &mut fmt::Formatter<W>) -> fmt::Result {
-        let version = self.version;
-        let level = self.level;
-        let start = self.start;
         write!(
             f,
-            "version {version}, read at level {level}\ndata at {start}"
+            "version {}, read at level {}\ndata at {}",
+            self.version, self.level, self.start
         )
     }
 }

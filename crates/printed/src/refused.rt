@@ -13,14 +13,15 @@ impl fmt::Display for Refused {
     ghost output = { λ x. Some (refusal_text x.0) };
 
     fn fmt<W: fmt::Write>(&self, f: &mut fmt::Formatter<W>) -> fmt::Result {
-        let number = self.0.refusal.number();
-        let name = self.0.refusal.name();
-        let layer = self.0.layer.name();
-        let block = self.0.block;
-        let place = self.0.place;
+        let fault = self.0;
         write!(
             f,
-            "refused {number}: {name} ({layer}), block {block}, place {place}"
+            "refused {}: {} ({}), block {}, place {}",
+            fault.refusal.number(),
+            fault.refusal.name(),
+            fault.layer.name(),
+            fault.block,
+            fault.place,
         )
     }
 }

@@ -1,5 +1,6 @@
 //! The numbers of a row, in a list of just their count.
-ghost use Rattle.std.specs.Prelude.{IfOk, vec_items};
+ghost use Rattle.std.specs.Prelude.{◌≡◌, vec_items};
+ghost use Rattle.printed.specs.declared.rows.RowError.TheVariants.{Refused, OutOfMemory};
 ghost use Rattle.printed.specs.Patterns.{row_patterns, Holds};
 
 use faults::Fault;
@@ -17,21 +18,37 @@ pub struct Asked {
     pub level: usize,
 }
 
-/// The patterns of a row; refuses as `JudgedFile::row` does.
-pub fn row_patterns(
-    heap: Global,
-    file: &JudgedFile,
-    asked: Asked,
-) -> Result<Result<Vec<u32>, Fault>, AllocError>
-    ensures { IfOk result (Holds vec_items (row_patterns file.now.bytes.now asked.level asked.cell asked.row)) }
-{
-    let length = match file.row(asked.level, asked.cell, asked.row) {
-        Ok((_, length)) => length,
-        Err(fault) => return Ok(Err(fault)),
-    };
-    let mut list = vec![in heap; 0; length / 4]?;
-    match file.numbers(asked.level, asked.cell, asked.row, list.as_mut_slice()) {
-        Ok(()) => Ok(Ok(list)),
-        Err(fault) => Ok(Err(fault)),
+/// Why a row has no list of numbers.
+#[derive(Clone, Copy, PartialEq, Eq, Debug)]
+pub enum RowError {
+    /// The row is refused.
+    Refused(Fault),
+    /// There is no memory for the list.
+    OutOfMemory(AllocError),
+}
+
+impl From<Fault> for RowError {
+    ghost from_gives = { λ fault e. e ≡ Refused fault };
+
+    fn from(fault: Fault) -> RowError {
+        RowError::Refused(fault)
     }
+}
+
+impl From<AllocError> for RowError {
+    ghost from_gives = { λ error e. e ≡ OutOfMemory error };
+
+    fn from(error: AllocError) -> RowError {
+        RowError::OutOfMemory(error)
+    }
+}
+
+/// The patterns of a row; refuses as `JudgedFile::row` does.
+pub fn row_patterns(heap: Global, file: &JudgedFile, asked: Asked) -> Result<Vec<u32>, RowError>
+    ensures { Holds vec_items (row_patterns file.now.bytes.now asked.level asked.cell asked.row) result }
+{
+    let (_, length) = file.row(asked.level, asked.cell, asked.row)?;
+    let mut list = vec![in heap; 0; length / 4]?;
+    file.numbers(asked.level, asked.cell, asked.row, list.as_mut_slice())?;
+    Ok(list)
 }

@@ -3,10 +3,10 @@ use Rattle.std.proofs.lemmas.List.{take_at}
 use Rattle.printed.proofs.Reading.{row_read}
 use Rattle.printed.proofs.rows.row_patterns.Goals as goal
 
-pub returns-in-Ok-numbers : goal.returns-in-Ok-numbers
-returns-in-Ok-numbers c =
-    let answered = sym c.row.ensures.answer ∙ c.in-Ok.is in
-    let fits = sym c.numbers.ensures.answer ∙ c.in-Ok-numbers.is in
+pub returns : goal.returns
+returns c =
+    let answered = sym c.row.ensures.answer ∙ c.in_ok-length.was in
+    let fits = sym c.numbers.ensures.answer ∙ c.in_ok-numbers.was in
     let kept = take_at c.numbers.new.list _ c.in_ok-list.list.len (search rules) in
     row_read c.args.file.now.bytes.now c.args.asked.level c.args.asked.cell c.args.asked.row _ c.as_mut_slice.result.now
     c.numbers.new.list answered (search rules) (search rules) fits c.numbers.ensures.list

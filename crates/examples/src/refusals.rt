@@ -1,0 +1,18 @@
+//! What a test compares of a refusal.
+use faults::Fault;
+
+/// Number, layer, block and place of a refusal; nothing of an answer.
+pub type Told = Option<(u8, u8, usize, usize)>;
+
+/// What an outcome tells of a refusal.
+pub fn refused<T: Drop>(outcome: Result<T, Fault>) -> Told {
+    match outcome {
+        Ok(_) => None,
+        Err(fault) => Some((
+            fault.refusal.number(),
+            fault.layer.number(),
+            fault.block,
+            fault.place,
+        )),
+    }
+}

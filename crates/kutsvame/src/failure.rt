@@ -1,0 +1,90 @@
+//! What leaves something that the words ask for undone, and what is said of it.
+ghost use Rattle.std.specs.Result.{result_ok};
+ghost use Rattle.kutsvame.specs.Words.{Writes};
+
+use crate::help::HELP;
+use crate::words::number_named;
+use faults::Fault;
+use printed::Refused;
+use std::alloc::AllocError;
+use std::process::ExitCode;
+use std::{fmt, fs, io};
+
+/// A file that cannot be read, and why.
+#[derive(Drop)]
+pub struct Unread<'a> {
+    name: &'a str,
+    error: io::Error,
+}
+
+impl fmt::Display for Unread<'_> {
+    fn fmt<W: fmt::Write>(&self, f: &mut fmt::Formatter<W>) -> fmt::Result {
+        write!(f, "{}: cannot be read: {}", self.name, self.error)
+    }
+}
+
+/// The bytes of a file.
+pub fn read_file<'a>(rt: &HostRuntime, name: &'a str) -> Result<Vec<u8>, Unread<'a>> {
+    fs::read(rt, name).map_err(|error| Unread { name, error })
+}
+
+/// Why not all is done.
+#[derive(Drop)]
+pub enum Failure<'a> {
+    /// The words name nothing to do: why, and the word.
+    Misused(&'static str, &'a str),
+    /// The file of that name cannot be read.
+    Unread(Unread<'a>),
+    /// The file of that name, or a question about it, is refused.
+    Refused(&'a str, Fault),
+    /// A file that was judged is refused or cannot be read; its line says why.
+    Judged,
+    /// The words cannot be read, nothing can be printed, or there is no memory.
+    Io(io::Error),
+}
+
+impl<'a> From<Unread<'a>> for Failure<'a> {
+    fn from(unread: Unread<'a>) -> Self {
+        Failure::Unread(unread)
+    }
+}
+
+impl From<io::Error> for Failure<'_> {
+    fn from(error: io::Error) -> Self {
+        Failure::Io(error)
+    }
+}
+
+impl From<AllocError> for Failure<'_> {
+    fn from(error: AllocError) -> Self {
+        Failure::Io(error.into())
+    }
+}
+
+impl Failure<'_> {
+    /// Says on standard error why not all is done, unless a line of judge has said it; the status, or the error that ends
+    /// the program.
+    pub fn report(self, rt: &HostRuntime) -> io::Result<ExitCode> {
+        match self {
+            Failure::Misused(why, word) => {
+                eprintln!(rt; "kutsvame: {why}: {word}\n")?;
+                rt.eprint(HELP)?;
+            }
+            Failure::Unread(unread) => rt.eprintln(unread)?,
+            Failure::Refused(name, fault) => {
+                let refused = Refused(fault);
+                eprintln!(rt; "{name}: {refused}")?;
+            }
+            Failure::Judged => {}
+            Failure::Io(error) => return Err(error),
+        }
+        Ok(ExitCode::FAILURE)
+    }
+}
+
+/// The number below 2^64 that a word writes in decimal digits.
+pub fn number(word: &str) -> Result<usize, Failure<'_>>
+    ensures { Writes word.now (result_ok result) }
+{
+    number_named(word).ok_or(Failure::Misused("no decimal number", word))
+}
