@@ -68,7 +68,7 @@ span_inside : (l : Layout) (cell row : ℕ) (p : ℕ × ℕ) → RowOf l cell ro
 span_inside l cell row p o =
     let s = l.sizes in
     let t =
-    computed_inside l cell row (bin_width s.quality) (width_before s.quality row, width_of s.quality row) (o.cell_from, o.cell_to) (o.row_from, o.row_to) refl refl in
+    computed_inside l cell row (bin_width s.quality) (width_before s.quality row) (width_of s.quality row) (o.cell_from, o.cell_to) (o.row_from, o.row_to) refl refl refl in
     subst (λ (x : ℕ × ℕ). (l.start ≤ x.0) × (x.0 + x.1 ≤ l.start + cells_size s)) o.span (omega arith, t)
 
 rows_inside : (b : List ℕ) (l : Layout) → held b ≡ Ok l → RowsInside b l

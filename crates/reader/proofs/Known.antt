@@ -3,7 +3,10 @@ use Rattle.std.proofs.Common.{◌≡◌, ℕ, Bool, true, false, cond, List, Som
 use Rattle.faults.specs.declared.fault.Fault.{Fault}
 use Rattle.format.specs.declared.judging.Layout.{Layout}
 use Rattle.format.specs.Judging.{judged}
+use Rattle.std.specs.Option.{ok_or}
 use Rattle.std.specs.Result.{result_ok}
+use Rattle.faults.specs.declared.refusal.Refusal.TheVariants.{NoFile}
+use Rattle.faults.specs.Faults.{fault}
 use Rattle.reader.specs.Levels.{accepted, file_layout, held, or_no_file, numbers_of}
 
 same_flag : (p q : Bool) → ◌≡◌ {A = ℕ} (cond p 1 0) (cond q 1 0) → p ≡ q
@@ -33,6 +36,11 @@ same_option (Some l) (Some m) e = ap Some (same_layout l m e)
 same_option (Some l) None e = let z : ◌≡◌ {A = ℕ} 0 1 = cc in absurd (omega arith)
 same_option None (Some m) e = let z : ◌≡◌ {A = ℕ} 0 1 = cc in absurd (omega arith)
 same_option None None e = refl
+
+-- no layout is refused by 31
+pub or_refused : (x : Option Layout) → ok_or x (fault NoFile 0) ≡ or_no_file x
+or_refused (Some l) = refl
+or_refused None = refl
 
 -- what is kept answers for the file
 pub held_by : (b : List ℕ) (x : Option Layout) → numbers_of x ≡ numbers_of (file_layout b) → or_no_file x ≡ held b

@@ -1,11 +1,11 @@
 -- Where the rows of a cell stand.
-use Rattle.std.proofs.Common.{◌≡◌, ℕ, ◌+◌, ◌-◌, ◌*◌, ◌<◌, ◌≤◌, Bool, List, length, get_or, take, sum, refl, ap, mul_assoc, add-mul, mul-add, arith}
+use Rattle.std.proofs.Common.{◌≡◌, ℕ, ◌+◌, ◌-◌, ◌*◌, ◌<◌, ◌≤◌, Bool, List, length, get_or, take, sum, ap, mul_assoc, add-mul, mul-add, arith}
 use Rattle.std.proofs.lemmas.Nat.{mul-le}
 use Rattle.std.proofs.lemmas.List.{take_all, take-take}
 use Rattle.std.proofs.lemmas.List.Sums.{sum_by_more, sum_by-take-le}
 use Rattle.format.specs.declared.judging.Layout.{Layout}
 use Rattle.format.specs.Rows.{row_widths, bin_width, cells_size}
-use Rattle.reader.specs.Answers.{width_before, width_of, row_span}
+use Rattle.reader.specs.Answers.{width_before, width_of}
 
 -- the part k of a list of widths ends before any later part begins
 pub parts_in_order : (ws : List ℕ) (k m : ℕ) → k < length ws → k < m → sum (take k ws) + get_or ws k 0 ≤ sum (take m ws)
@@ -32,18 +32,12 @@ span_within cell ranges bins before width all from to fits =
     omega (arith, mul_assoc ranges bins all)
 
 -- what is computed from a bin's widths ends within the cells
-pub computed_inside : (l : Layout) (cell row all : ℕ) (p : ℕ × ℕ) → (1 ≤ cell) × (cell ≤ l.sizes.ranges) → (1 ≤ row) × (row ≤ length (row_widths l.sizes.quality))
-    → p ≡ (width_before l.sizes.quality row, width_of l.sizes.quality row) → all ≡ bin_width l.sizes.quality
-    → l.start + (cell - 1) * (l.sizes.bins * all) + l.sizes.bins * p.0 + l.sizes.bins * p.1 ≤ l.start + cells_size l.sizes
-computed_inside l cell row all p cells rows e f =
+pub computed_inside : (l : Layout) (cell row all before own : ℕ) → (1 ≤ cell) × (cell ≤ l.sizes.ranges) → (1 ≤ row) × (row ≤ length (row_widths l.sizes.quality))
+    → before ≡ width_before l.sizes.quality row → own ≡ width_of l.sizes.quality row → all ≡ bin_width l.sizes.quality
+    → l.start + (cell - 1) * (l.sizes.bins * all) + l.sizes.bins * before + l.sizes.bins * own ≤ l.start + cells_size l.sizes
+computed_inside l cell row all before own cells rows e f g =
     let s = l.sizes in
-    let fits : p.0 + p.1 ≤ all = rw (e, f) (row_within s.quality row rows.0 rows.1) in
-    let t = span_within cell s.ranges s.bins p.0 p.1 all cells.0 cells.1 fits in
-    let size : s.ranges * s.bins * all ≡ cells_size s = ap (λ (x : ℕ). s.ranges * s.bins * x) f in
+    let fits : before + own ≤ all = rw (e, f, g) (row_within s.quality row rows.0 rows.1) in
+    let t = span_within cell s.ranges s.bins before own all cells.0 cells.1 fits in
+    let size : s.ranges * s.bins * all ≡ cells_size s = ap (λ (x : ℕ). s.ranges * s.bins * x) g in
     omega arith
-
--- and is the row's place and length
-pub computed_span : (l : Layout) (cell row all : ℕ) (p : ℕ × ℕ)
-    → p ≡ (width_before l.sizes.quality row, width_of l.sizes.quality row) → all ≡ bin_width l.sizes.quality
-    → ◌≡◌ {A = ℕ × ℕ} (l.start + (cell - 1) * (l.sizes.bins * all) + l.sizes.bins * p.0, l.sizes.bins * p.1) (row_span l cell row)
-computed_span l cell row all p e f = rw (e, f) refl

@@ -1,8 +1,10 @@
 //! Blocks: one by its number, one read as a kind, and all of them in a table.
-ghost use Rattle.std.specs.Prelude.{◌≡◌, ℕ, ◌+◌, ◌-◌, ◌<◌, ◌≤◌, length, IfOk, OnOk};
-ghost use Rattle.format.specs.Checks.{all_of};
+ghost use Rattle.std.specs.Prelude.{◌≡◌, ℕ, ◌+◌, ◌-◌, ◌<◌, ◌≤◌, length, Ok, IfOk};
+ghost use Rattle.std.specs.Iterator.{YieldsFirst, item_count};
+ghost use Rattle.format.specs.Checks.{all_of, ◌then◌};
 ghost use Rattle.format.specs.Section.{block_end};
-ghost use Rattle.reader.specs.Answers.{block_place, entry_at, entries, filled, block_answer, table_answer, table_list, shown, look_answer};
+ghost use Rattle.reader.specs.Answers.{block_place, entry_at, entries, entries_from, BlocksInside, block_answer, table_answer, table_list, shown, look_answer};
+ghost use Rattle.reader.specs.Laws.{Placed};
 ghost use Rattle.reader.specs.Levels.{block_conditions};
 
 use crate::judged::{JudgedFile, check_level};
@@ -34,48 +36,57 @@ fn read_entry(bytes: &[u8], at: usize) -> Entry
     }
 }
 
-/// Where the block begins that has `before` others before it: walks over them.
-fn find_block(bytes: &[u8], before: usize) -> usize
-    requires { (k : ℕ) → k < before → block_end bytes.now (block_place bytes.now k) ≤ length bytes.now }
-    ensures { result ≡ block_place bytes.now before }
-{
-    let mut at = 104;
-    for _i in 0..before {
-        let entry = read_entry(bytes, at);
-        at += 8 + entry.size;
-    }
-    at
+/// The blocks that are left from a place on, one behind the other: a walk over their heads.
+#[derive(Drop)]
+struct Heads<'a> {
+    bytes: &'a [u8],
+    at: usize,
+    left: usize,
+    ghost inside: { BlocksInside bytes.now at left },
 }
 
-/// Puts the entries of the first `count` blocks into the table: walks over them.
-fn list_blocks(bytes: &[u8], count: usize, table: &mut [Entry])
-    requires count_in_bounds { count ≤ length table.old }
-    requires by_index { (k : ℕ) → k < count → block_end bytes.now (block_place bytes.now k) ≤ length bytes.now }
-    ensures { table.new ≡ filled (entries bytes.now count) table.old }
-{
-    let mut at = 104;
-    for i in 0..count {
-        let entry = read_entry(bytes, at);
-        table[i] = entry;
-        at += 8 + entry.size;
-    }
-}
+impl<'a> Iterator for Heads<'a> {
+    type Item = Entry;
 
-/// Refuses 33 and 34, as a block is asked for.
-fn check_block(layout: Layout, number: usize) -> Result<(), Fault>
-    ensures exact { result ≡ all_of (block_conditions layout number) }
-    ensures known { OnOk result ((1 ≤ number) × (number ≤ layout.blocks)) }
-{
-    if layout.version < 6 {
-        return Err(Fault::at(Refusal::VersionLacksIt, 0));
+    ghost next_gives = { YieldsFirst (λ heads. entries_from heads.bytes.now heads.at heads.left) };
+
+    ghost remaining = { item_count (λ heads. entries_from heads.bytes.now heads.at heads.left) };
+
+    fn next(&mut self) -> Option<Entry> {
+        self.left = self.left.checked_sub(1)?;
+        let entry = read_entry(self.bytes, self.at);
+        self.at += 8 + entry.size;
+        Some(entry)
     }
-    if number < 1 || number > layout.blocks {
-        return Err(Fault::at(Refusal::NoSuchBlock, 0));
-    }
-    Ok(())
 }
 
 impl<'a> JudgedFile<'a> {
+    /// The heads of all blocks.
+    fn heads(&self, layout: Layout) -> Heads<'a>
+        requires { Placed self.now.bytes.now layout }
+        ensures { entries_from result.bytes.now result.at result.left ≡ entries self.now.bytes.now layout.blocks }
+    {
+        Heads {
+            bytes: self.bytes,
+            at: 104,
+            left: layout.blocks,
+        }
+    }
+
+    /// The entry of a block; refuses 33 below version 6, and 34 for no such block.
+    fn entry(&self, layout: Layout, number: usize) -> Result<Entry, Fault>
+        requires { Placed self.now.bytes.now layout }
+        ensures exact { result ≡ (all_of (block_conditions layout number) then Ok (entry_at self.now.bytes.now (block_place self.now.bytes.now (number - 1)))) }
+        ensures inside { IfOk result (λ entry. block_end self.now.bytes.now entry.place ≤ length self.now.bytes.now) }
+    {
+        if layout.version < 6 {
+            return Err(Fault::at(Refusal::VersionLacksIt, 0));
+        }
+        let none = Fault::at(Refusal::NoSuchBlock, 0);
+        let before = number.checked_sub(1).ok_or(none)?;
+        self.heads(layout).nth(before).ok_or(none)
+    }
+
     /// The entry of a block, for a reader of that level; refuses 31, 19, 20 below level 6, 33 below version 6, and 34 for no
     /// such block.
     pub fn block(&self, level: usize, number: usize) -> Result<Entry, Fault>
@@ -86,9 +97,7 @@ impl<'a> JudgedFile<'a> {
         if level < 6 {
             return Err(Fault::at(Refusal::LevelTooLow, 0));
         }
-        check_block(layout, number)?;
-        let at = find_block(self.bytes, number - 1);
-        Ok(read_entry(self.bytes, at))
+        self.entry(layout, number)
     }
 
     /// The entries of all blocks, at the start of the table, the rest of which stays; answers their count, 0 below version 6.
@@ -101,7 +110,9 @@ impl<'a> JudgedFile<'a> {
         if layout.blocks > table.len() {
             return Err(Fault::at(Refusal::ListOrTableTooShort, layout.blocks));
         }
-        list_blocks(self.bytes, layout.blocks, table);
+        for (i, entry) in self.heads(layout).enumerate() {
+            table[i] = entry;
+        }
         Ok(layout.blocks)
     }
 
@@ -112,8 +123,7 @@ impl<'a> JudgedFile<'a> {
         ensures inside { IfOk result (λ v. v.text + v.length ≤ length self.now.bytes.now) }
     {
         let layout = self.layout()?;
-        check_block(layout, number)?;
-        let at = find_block(self.bytes, number - 1);
-        look_at::<K>(self.bytes, at, number)
+        let entry = self.entry(layout, number)?;
+        look_at::<K>(self.bytes, entry.place, number)
     }
 }

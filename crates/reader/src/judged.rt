@@ -18,6 +18,7 @@ pub struct JudgedFile<'a> {
 }
 
 /// Refuses 19 for a level that is none of 1 to 6.
+// A type for levels would be no plainer: no caller needs more of a level than its order among numbers.
 pub(crate) fn check_level(level: usize) -> Result<(), Fault>
     ensures { result ≡ level_known level }
 {
@@ -47,10 +48,7 @@ impl<'a> JudgedFile<'a> {
         ensures exact { result ≡ held self.now.bytes.now }
         ensures placed { IfOk result (Placed self.now.bytes.now) }
     {
-        match self.layout {
-            Some(layout) => Ok(layout),
-            None => Err(Fault::at(Refusal::NoFile, 0)),
-        }
+        self.layout.ok_or(Fault::at(Refusal::NoFile, 0))
     }
 
     /// The file's version; refuses 31.

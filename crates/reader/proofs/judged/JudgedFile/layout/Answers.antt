@@ -1,20 +1,13 @@
-use Rattle.std.proofs.Common.{◌≡◌, Ok, Err, sym, ap, ◌∙◌}
-use Rattle.reader.specs.Levels.{held, or_no_file}
-use Rattle.reader.proofs.Known.{held_by}
+use Rattle.std.proofs.Common.{◌≡◌, ap, ◌∙◌}
+use Rattle.std.specs.Option.{ok_or}
+use Rattle.reader.specs.Levels.{held}
+use Rattle.reader.proofs.Known.{held_by, or_refused}
 use Rattle.reader.proofs.Place.{placed_if}
 use Rattle.reader.proofs.judged.JudgedFile.layout.Goals as goal
 
-pub returns-in-Some : goal.returns-in-Some
-returns-in-Some c =
+pub returns : goal.returns
+returns c =
     let f = c.args.self.now in
-    let exact : Ok c.in-Some.layout ≡ held f.bytes.now =
-    ap or_no_file (sym c.in-Some.is) ∙ held_by f.bytes.now f.layout f.known in
-    record { exact = exact; placed = placed_if f.bytes.now (Ok c.in-Some.layout) exact }
-
-pub returns-in-None : goal.returns-in-None
-returns-in-None c =
-    let f = c.args.self.now in
-    record {
-      exact = ap Err c.at.ensures ∙ ap or_no_file (sym c.in-None.is) ∙ held_by f.bytes.now f.layout f.known;
-      placed = tt;
-    }
+    let exact : c.ok_or.result ≡ held f.bytes.now =
+    c.ok_or.ensures.value ∙ ap (ok_or f.layout) c.at.ensures ∙ or_refused f.layout ∙ held_by f.bytes.now f.layout f.known in
+    record { exact = exact; placed = placed_if f.bytes.now c.ok_or.result exact }
