@@ -4,7 +4,6 @@ use Rattle.std.proofs.lemmas.List.FromFn.{length-map-range_with_len}
 use Rattle.std.proofs.lemmas.List.{take_at, drop_at, drop-drop, length-append, length-take-le, map-append, take-append-drop}
 use Rattle.std.specs.List.{range_with_len}
 use Rattle.reader.specs.Answers.{filled}
-use Rattle.reader.proofs.Fill.{fill_all}
 use Rattle.exports.specs.Rows.{copied}
 
 -- two stretches of numbers in a row
@@ -60,4 +59,5 @@ written_more f a m e old now next this that from to inside = that ∙ ap (copied
 pub written_all : (f : ℕ → ℕ) (n : ℕ) (old : List ℕ) → copied f 0 n old ≡ filled (map f (range_with_len 0 n)) old
 written_all f n old =
     let all : n - 0 ≡ n = omega arith in
-    ap (λ (x : ℕ). map f (range_with_len 0 x) ++ drop n old) all ∙ fill_all f old n
+    ap (λ (x : ℕ). map f (range_with_len 0 x) ++ drop n old) all
+    ∙ ap (λ (k : ℕ). map f (range_with_len 0 n) ++ drop k old) (sym (length-map-range_with_len f 0 n))
