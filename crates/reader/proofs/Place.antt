@@ -38,6 +38,11 @@ rest_inside b at n left e inside less is k l =
     let there : behind b (at + (8 + e.size)) k ≡ block_end b (behind b at k) = ap (λ (x : ℕ). behind b x k) next ∙ shift b at k in
     subst (λ (x : ℕ). block_end b x ≤ length b) (sym there) (inside (suc k) (omega arith))
 
+-- it lists as many entries as there are blocks
+pub walk_length : (b : List ℕ) (at n : ℕ) → length (entries_from b at n) ≡ n
+walk_length b at zero = refl
+walk_length b at (suc n) = ap suc (walk_length b (block_end b at) n)
+
 -- a walk from block k on meets that block and the next ones
 along : (b : List ℕ) (k at n : ℕ) → at ≡ block_place b k → entries_from b at n ≡ map (λ i. entry_at b (block_place b i)) (range_with_len k n)
 along b k at zero e = refl

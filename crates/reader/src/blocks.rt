@@ -1,9 +1,9 @@
 //! Blocks: one by its number, one read as a kind, and all of them in a table.
 ghost use Rattle.std.specs.Prelude.{◌≡◌, ℕ, ◌+◌, ◌-◌, ◌<◌, ◌≤◌, length, Ok, IfOk};
-ghost use Rattle.std.specs.Iterator.{YieldsFirst, item_count};
+ghost use Rattle.std.specs.Iterator.{YieldsFirst, at_most};
 ghost use Rattle.format.specs.Checks.{all_of, ◌then◌};
 ghost use Rattle.format.specs.Section.{block_end};
-ghost use Rattle.reader.specs.Answers.{block_place, entry_at, entries, entries_from, BlocksInside, block_answer, table_answer, table_list, shown, look_answer};
+ghost use Rattle.reader.specs.Answers.{block_place, entry_at, entries, entries_from, filled, BlocksInside, block_answer, table_answer, table_list, shown, look_answer};
 ghost use Rattle.reader.specs.Laws.{Placed};
 ghost use Rattle.reader.specs.Levels.{block_conditions};
 
@@ -50,7 +50,7 @@ impl<'a> Iterator for Heads<'a> {
 
     ghost next_gives = { YieldsFirst (λ heads. entries_from heads.bytes.now heads.at heads.left) };
 
-    ghost remaining = { item_count (λ heads. entries_from heads.bytes.now heads.at heads.left) };
+    ghost remaining = { λ heads. at_most heads.left };
 
     fn next(&mut self) -> Option<Entry> {
         self.left = self.left.checked_sub(1)?;
@@ -60,11 +60,24 @@ impl<'a> Iterator for Heads<'a> {
     }
 }
 
+impl<'a> Heads<'a> {
+    /// Puts the entries of the blocks at the start of the table.
+    fn list(self, table: &mut [Entry])
+        requires { self.left ≤ length table.old }
+        ensures { table.new ≡ filled (entries_from self.entry.bytes.now self.entry.at self.entry.left) table.old }
+    {
+        for (i, entry) in self.enumerate() {
+            table[i] = entry;
+        }
+    }
+}
+
 impl<'a> JudgedFile<'a> {
     /// The heads of all blocks.
     fn heads(&self, layout: Layout) -> Heads<'a>
         requires { Placed self.now.bytes.now layout }
-        ensures { entries_from result.bytes.now result.at result.left ≡ entries self.now.bytes.now layout.blocks }
+        ensures all { entries_from result.bytes.now result.at result.left ≡ entries self.now.bytes.now layout.blocks }
+        ensures count { result.left ≡ layout.blocks }
     {
         Heads {
             bytes: self.bytes,
@@ -110,9 +123,7 @@ impl<'a> JudgedFile<'a> {
         if layout.blocks > table.len() {
             return Err(Fault::at(Refusal::ListOrTableTooShort, layout.blocks));
         }
-        for (i, entry) in self.heads(layout).enumerate() {
-            table[i] = entry;
-        }
+        self.heads(layout).list(table);
         Ok(layout.blocks)
     }
 
