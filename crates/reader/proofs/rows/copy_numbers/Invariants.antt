@@ -3,6 +3,4 @@ use Rattle.reader.specs.Answers.{patterns}
 use Rattle.reader.proofs.rows.copy_numbers.Given as goal
 
 abbrev pub invariant-loop-i : goal.invariant-loop-i
-invariant-loop-i l =
-    (goal.iterator-loop-i).can_next l.i-iterator × (goal.iterator-loop-i).is_finite l.i-iterator
-    × (l.list ≡ take (length l.yielded) (patterns l.bytes) ++ drop (length l.yielded) l.initial.list)
+invariant-loop-i l = l.list ≡ take (length l.yielded) (patterns l.bytes) ++ drop (length l.yielded) l.initial.list

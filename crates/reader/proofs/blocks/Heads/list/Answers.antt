@@ -38,13 +38,13 @@ loop-i-preserved c =
     let t = turn (goal.at.loop-i-preserved c).In-Some in
     let k = length c.loop-i.yielded in
     let count = walk_length c.args.self.bytes.now c.args.self.at c.args.self.left in
-    let more = fill_more (walk c.args.self) c.args.table.now c.loop-i.table k c.in-Some.entry t.2 (omega arith) c.loop-i.invariant.2 t.3 in
+    let more = fill_more (walk c.args.self) c.args.table.now c.loop-i.table k c.in-Some.entry t.2 (omega arith) c.loop-i.invariant t.3 in
     let next = length_push c.loop-i.yielded (c.in-Some.i, c.in-Some.entry) in
-    (search rules, search rules, ap (λ (i : ℕ). set c.loop-i.table i c.in-Some.entry) t.0 ∙ (rw next more))
+    ap (λ (i : ℕ). set c.loop-i.table i c.in-Some.entry) t.0 ∙ (rw next more)
 
 pub returns : goal.returns
 returns c =
     let all =
     numbered_end (walk c.args.self) (YieldsList-from_first (λ (x : Entry). x) walk (walk c.args.self) (search rules)) (search rules)
     c.loop-i.yielded c.loop-i.i-iterator c.loop-i.yielded_by c.next.result c.next.new.self c.in-None.is c.next.ensures.steps in
-    fill_all (walk c.args.self) c.args.table.now c.loop-i.table (length c.loop-i.yielded) all c.loop-i.invariant.2
+    fill_all (walk c.args.self) c.args.table.now c.loop-i.table (length c.loop-i.yielded) all c.loop-i.invariant

@@ -3,6 +3,4 @@ use Rattle.reader.specs.Answers.{entries_from}
 use Rattle.reader.proofs.blocks.Heads.list.Given as goal
 
 abbrev pub invariant-loop-i : goal.invariant-loop-i
-invariant-loop-i l =
-    (goal.iterator-loop-i).can_next l.i-iterator × (goal.iterator-loop-i).is_finite l.i-iterator
-    × (l.table ≡ take (length l.yielded) (entries_from l.fn.self.bytes.now l.fn.self.at l.fn.self.left) ++ drop (length l.yielded) l.initial.table)
+invariant-loop-i l = l.table ≡ take (length l.yielded) (entries_from l.fn.self.bytes.now l.fn.self.at l.fn.self.left) ++ drop (length l.yielded) l.initial.table
