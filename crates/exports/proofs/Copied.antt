@@ -23,12 +23,6 @@ map_counting_append f a m e from to =
     sym (map-append f (range_with_len a (m - a)) (range_with_len m (e - m)))
     ∙ ap (map f) (counting_append a (m - a) (e - m) m (omega arith) ∙ ap (range_with_len a) whole)
 
--- nothing copied
-pub written_none : (f : ℕ → ℕ) (a : ℕ) (old : List ℕ) → old ≡ copied f a a old
-written_none f a old =
-    let none : a - a ≡ 0 = omega arith in
-    sym (take-append-drop a old) ∙ ap (λ (n : ℕ). take a old ++ (map f (range_with_len a n) ++ drop a old)) (sym none)
-
 -- one stretch behind the other
 both_written : (f : ℕ → ℕ) (a m e : ℕ) (old : List ℕ) → a ≤ m → m ≤ e → e ≤ length old
     → copied f m e (copied f a m old) ≡ copied f a e old

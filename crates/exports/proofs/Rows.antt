@@ -36,10 +36,6 @@ row_ends l cell row cells rows =
     let q = s.quality in
     span_within cell s.ranges s.bins (width_before q row) (width_of q row) (bin_width q) cells.0 cells.1 (row_within q row rows.0 rows.1)
 
--- and begins within a list that has room for all numbers
-pub row_begins : (l : Layout) (cell row at room : ℕ) → CellOf l cell → RowOf l row → 4 * at ≡ bytes_before l cell row → count_of l ≤ room → at ≤ room
-row_begins l cell row at room cells rows begin fits = omega (arith, row_ends l cell row cells rows)
-
 -- the next row begins there
 pub next_row : (l : Layout) (cell row : ℕ) → RowOf l row
     → bytes_before l cell (row + 1) ≡ bytes_before l cell row + l.sizes.bins * width_of l.sizes.quality row
@@ -148,14 +144,7 @@ whole_numbers l row rows =
     (λ (e : width_of l.sizes.quality row ≡ 8). rw e (omega arith))
     (four_or_eight l.sizes.quality row rows.0 rows.1)
 
--- a row that is answered begins within a list that has room for all numbers
-pub answered_begins : (b : List ℕ) (l : Layout) (cell row at room : ℕ) (p : ℕ × ℕ) → held b ≡ Ok l → Ok p ≡ row_answer b 6 cell row
-    → 4 * at ≡ bytes_before l cell row → count_of l ≤ room → at ≤ room
-answered_begins b l cell row at room p h e begin fits =
-    let o = row_asked b l 6 cell row p h (sym e) in
-    row_begins l cell row at room (o.cell_from, o.cell_to) (o.row_from, o.row_to) begin fits
-
--- and ends there
+-- a row that is copied from a place on ends there
 answered_ends : (l : Layout) (cell row at : ℕ) (p : ℕ × ℕ) → CellOf l cell → RowOf l row → row_span l cell row ≡ p → 4 * at ≡ bytes_before l cell row
     → (4 * (at + p.1 / 4) ≡ bytes_before l cell row + l.sizes.bins * width_of l.sizes.quality row) × (at + p.1 / 4 ≤ count_of l)
 answered_ends l cell row at p cells rows span begin =
@@ -217,17 +206,6 @@ all_copied l cell end is last =
 -- the count of the numbers, as it is computed
 pub has_room : (l : Layout) (width room : ℕ) → width ≡ bin_width l.sizes.quality → l.sizes.ranges * l.sizes.bins * width / 4 ≤ room → count_of l ≤ room
 has_room l width room e fits = let size : l.sizes.ranges * l.sizes.bins * width / 4 ≡ count_of l = ap (λ (w : ℕ). l.sizes.ranges * l.sizes.bins * w / 4) e in omega arith
-
--- the cells of a file have few bytes
-few_bytes : (quality : Bool) → bin_width quality ≤ 40
-few_bytes true = omega arith
-few_bytes false = omega arith
-
-pub cells_small : (b : List ℕ) (l : Layout) → held b ≡ Ok l → cells_size l.sizes ≤ 8192 * 32768 * 40
-cells_small b l h =
-    let s = l.sizes in
-    let p = placed b l h in
-    mul-le (s.ranges * s.bins) (bin_width s.quality) (8192 * 32768) 40 (mul-le s.ranges s.bins 8192 32768 p.ranges_to p.bins_to) (few_bytes s.quality)
 
 -- a list that has room for all numbers
 pub copied_answer : (l : Layout) (room end : ℕ) → count_of l ≤ room → end ≡ count_of l → end ≡ copy_answer (Ok l) room

@@ -5,7 +5,7 @@ use crate::refused::{read_file, refuse};
 use crate::words::{LEVEL, number_named};
 use format::{Layout, judge};
 use printed::{FieldLine, Opening, SizesText};
-use reader::JudgedFile;
+use reader::{JudgedFile, RowAt};
 use std::io;
 
 /// Prints a line for each field that a reader of that level sees in the file.
@@ -37,7 +37,12 @@ fn show_accepted(
         level,
         start,
     })?;
-    match file.row(level, 1, 1) {
+    let first = RowAt {
+        level,
+        cell: 1,
+        row: 1,
+    };
+    match file.row(first) {
         Ok(_) => rt.println(SizesText(layout.sizes))?,
         Err(_) => rt.println("layout unknown at this level")?,
     }

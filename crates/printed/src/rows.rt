@@ -3,7 +3,7 @@ ghost use Rattle.std.specs.Prelude.{IfOk, vec_items};
 ghost use Rattle.printed.specs.Patterns.{row_patterns, Holds};
 
 use faults::Fault;
-use reader::JudgedFile;
+use reader::{JudgedFile, RowAt};
 use std::alloc::{AllocError, Global};
 
 /// Which row is asked for, and by a reader of which level.
@@ -25,12 +25,17 @@ pub fn row_patterns(
 ) -> Result<Result<Vec<u32>, Fault>, AllocError>
     ensures { IfOk result (Holds vec_items (row_patterns file.now.bytes.now asked.level asked.cell asked.row)) }
 {
-    let length = match file.row(asked.level, asked.cell, asked.row) {
+    let at = RowAt {
+        level: asked.level,
+        cell: asked.cell,
+        row: asked.row,
+    };
+    let length = match file.row(at) {
         Ok((_, length)) => length,
         Err(fault) => return Ok(Err(fault)),
     };
     let mut list = vec![in heap; 0; length / 4]?;
-    match file.numbers(asked.level, asked.cell, asked.row, list.as_mut_slice()) {
+    match file.numbers(at, list.as_mut_slice()) {
         Ok(()) => Ok(Ok(list)),
         Err(fault) => Ok(Err(fault)),
     }
