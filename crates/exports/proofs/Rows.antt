@@ -1,7 +1,6 @@
 -- Where a row's numbers stand among all numbers, and how they are copied.
 use borrow.Rule.Slice.PartMut.{put_mid}
 use Rattle.std.proofs.Common.{◌≡◌, ℕ, zero, suc, ◌+◌, ◌-◌, ◌*◌, ◌/◌, ◌<◌, ◌≤◌, ◌⊎◌, Bool, true, false, List, [], ◌++◌, map, length, get_or, take, drop, Ok, sum, Result, sym, refl, ap, ◌∙◌, inl, inr, ⊎_elim, mul_assoc, add-mul, mul-add, arith}
-use Rattle.std.proofs.lemmas.Nat.{mul-le}
 use Rattle.std.proofs.lemmas.List.FromFn.{length-map-range_with_len, get_or-map-range_with_len}
 use Rattle.std.proofs.lemmas.List.{same_lists, take_all, length-take-le, length-drop, drop-drop, drop_all, take_rest, append-nil}
 use Rattle.std.proofs.lemmas.List.Sums.{sum_by_more}
@@ -177,8 +176,7 @@ answered_copied b l cell row at old now new p h e begin fits long is f =
     let o = row_asked b l 6 cell row p h (sym e) in
     let ends = answered_ends l cell row at p (o.cell_from, o.cell_to) (o.row_from, o.row_to) o.span begin in
     let end = at + p.1 / 4 in
-    let written = row_written b l cell row at end now new h (o.cell_from, o.cell_to) (o.row_from, o.row_to) begin ends.0 (omega (arith, ends.1)) f in
-    (
+    let written = row_written b l cell row at end now new h (o.cell_from, o.cell_to) (o.row_from, o.row_to) begin ends.0 (omega (arith, ends.1)) f in (
       ends.0 ∙ sym (next_row l cell row (o.row_from, o.row_to)),
       ends.1,
       written_more (number_at b l) 0 at end old now _ is written (omega arith) (omega arith) (omega (arith, ends.1)),

@@ -22,10 +22,15 @@ fn copy_rows(judged: &JudgedFile, list: &mut [u32]) -> Result<usize, Fault>
     if count > list.len() {
         return Err(Fault::at(Refusal::ListOrTableTooShort, count));
     }
+    // A place, and no rest that `split_at_mut` cuts in each turn: of a list that was lent on so in a loop, a proof knows no element.
     let mut end = 0;
     for cell in 1..=layout.sizes.ranges as usize {
         for row in 1..=row_count(layout.sizes.quality) {
-            let at = RowAt { level: 6, cell, row };
+            let at = RowAt {
+                level: 6,
+                cell,
+                row,
+            };
             let (_, length) = judged.row(at)?;
             judged.numbers(at, &mut list[end..])?;
             end += length / 4;

@@ -66,6 +66,7 @@ impl<'a> Heads<'a> {
         requires { self.left ≤ length table.old }
         ensures { table.new ≡ filled (entries_from self.entry.bytes.now self.entry.at self.entry.left) table.old }
     {
+        // By number, and not by `table.iter_mut().zip(self)`: of a table that was lent so, a proof knows no element.
         for (i, entry) in self.enumerate() {
             table[i] = entry;
         }

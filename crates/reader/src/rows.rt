@@ -110,6 +110,7 @@ fn copy_numbers(bytes: &[u8], list: &mut [u32])
     requires { length bytes.now / 4 ≤ length list.old }
     ensures { list.new ≡ filled (patterns bytes.now) list.old }
 {
+    // By number, and not by `list.iter_mut().zip(..)`: of a list that was lent so, a proof knows no element.
     for (i, word) in bytes.chunks_exact(4).enumerate() {
         list[i] = read_number(word);
     }
