@@ -130,6 +130,7 @@ impl<'a> JudgedFile<'a> {
 
     /// A block read as a kind: its record, its text as a place and a length in the file, and the bytes used. Refuses 31, 33
     /// below version 6, 34 for no such block, 12 for another key, and then as the kind does.
+    #[tactic(auto, using(crate::proofs::Sights::look_shown))]
     pub fn look<K: Kind>(&self, number: usize) -> Result<Reading<K::Record>, Fault>
         ensures answer { shown K.numbers result ≡ look_answer K.kind self.now.bytes.now number }
         ensures inside { IfOk result (λ v. v.text + v.length ≤ length self.now.bytes.now) }

@@ -1,4 +1,4 @@
-use Rattle.std.proofs.Common.{◌≡◌, ℕ, length, Ok, Err, Result, sym, ap, ◌∙◌, arith}
+use Rattle.std.proofs.Common.{◌≡◌, ℕ, length, Ok, Err, Result, sym, ap, ◌∙◌, rules, arith}
 use Rattle.faults.specs.declared.fault.Fault.{Fault}
 use Rattle.format.specs.declared.judging.Layout.{Layout}
 use Rattle.exports.specs.Rows.{copy_answer, copy_list}
@@ -9,7 +9,7 @@ use Rattle.exports.proofs.copy_rows.Goals as goal
 pub returns-in_err-numbers : goal.returns-in_err-numbers
 returns-in_err-numbers c =
     let l = c.in_ok-layout.layout in
-    let fits = has_room l c.bin_width.result (length c.args.list.now) c.bin_width.ensures c.if-count-list.false in
+    let fits = has_room l c.bin_width.result (length c.args.list.now) c.bin_width.ensures (search rules) in
     let answered =
     answered_fits c.args.judged.now.bytes.now l c.loop-cell.cell c.loop-row.row c.loop-row.end c.args.list.now c.loop-row.list (c.in_ok-length.field-0-0, c.in_ok-length.length)
     (sym c.in_ok-layout.ensures.exact) c.in_ok-length.ensures.answer c.loop-row.invariant.0 fits (c.loop-row.auto.list ∙ c.loop-cell.auto.list) in
@@ -20,14 +20,14 @@ returns-in_err-numbers c =
 pub loop-row-preserved : goal.loop-row-preserved
 loop-row-preserved c =
     let l = c.in_ok-layout.layout in
-    let fits = has_room l c.bin_width.result (length c.args.list.now) c.bin_width.ensures c.if-count-list.false in
+    let fits = has_room l c.bin_width.result (length c.args.list.now) c.bin_width.ensures (search rules) in
     answered_copied c.args.judged.now.bytes.now l c.loop-cell.cell c.loop-row.row c.loop-row.end c.args.list.now c.loop-row.list c.numbers.new.list (c.in_ok-length.field-0-0, c.in_ok-length.length)
     (sym c.in_ok-layout.ensures.exact) c.in_ok-length.ensures.answer c.loop-row.invariant.0 fits (c.loop-row.auto.list ∙ c.loop-cell.auto.list) c.loop-row.invariant.2 c.numbers.ensures.list
 
 pub loop-cell-preserved : goal.loop-cell-preserved
 loop-cell-preserved c =
     let l = c.in_ok-layout.layout in
-    let fits = has_room l c.bin_width.result (length c.args.list.now) c.bin_width.ensures c.if-count-list.false in
+    let fits = has_room l c.bin_width.result (length c.args.list.now) c.bin_width.ensures (search rules) in
     elim c.loop-row-test.branch [
       | else-loop-row-test w ↦ absurd (omega arith)
       | then-loop-row-test+in_ok-length+in_ok-numbers+else-row-row-end w ↦
@@ -40,7 +40,7 @@ pub returns-else-count-list-2 : goal.returns-else-count-list-2
 returns-else-count-list-2 c =
     let l = c.in_ok-layout.layout in
     let b = c.args.judged.now.bytes.now in
-    let fits = has_room l c.bin_width.result (length c.args.list.now) c.bin_width.ensures c.if-count-list.false in
+    let fits = has_room l c.bin_width.result (length c.args.list.now) c.bin_width.ensures (search rules) in
     elim c.loop-row-test.branch [
       | else-loop-row-test w ↦ absurd (omega arith)
       | then-loop-row-test+in_ok-length+in_ok-numbers+else-row-row-end w ↦
