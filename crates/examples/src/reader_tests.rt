@@ -1,10 +1,15 @@
 //! Reading at a level: each answer and each refusal of the judged file, on M and on files of early versions.
 use crate::example_file;
 use crate::refusals::refused;
-use reader::{Entry, JudgedFile};
+use reader::{Entry, JudgedFile, RowAt};
 use records::{Fill, Loca};
 use std::test::Fail;
 use texts::Zone;
+
+/// The row of a cell, asked for by a reader of that level.
+fn at(level: usize, cell: usize, row: usize) -> RowAt {
+    RowAt { level, cell, row }
+}
 
 /// A version 4 file of two cells of one bin with quality, data at 80, and a gap of eight bytes before them.
 fn early_file() -> [u8; 160] {
@@ -34,15 +39,15 @@ fn refused_bytes_answer_31(rt: HostRuntime) {
     assert_eq!(rt; refused(file.version()), none);
     assert_eq!(rt; refused(file.start(7)), none);
     assert_eq!(rt; refused(file.field(0, 0)), none);
-    assert_eq!(rt; refused(file.row(0, 0, 0)), none);
+    assert_eq!(rt; refused(file.row(at(0, 0, 0))), none);
     let mut list = [9u32; 2];
-    assert_eq!(rt; refused(file.numbers(0, 0, 0, &mut list)), none);
+    assert_eq!(rt; refused(file.numbers(at(0, 0, 0), &mut list)), none);
     assert_eq!(rt; list, [9, 9]);
     assert_eq!(rt; refused(file.block(0, 0)), none);
     assert_eq!(rt; refused(file.look::<Fill>(0)), none);
     let mut table = [];
     assert_eq!(rt; refused(file.table(&mut table)), none);
-    assert_eq!(rt; refused(file.row_part(0, 0, 0)), none);
+    assert_eq!(rt; refused(file.row_part(at(0, 0, 0))), none);
     assert_eq!(rt; refused(file.text_part::<Zone>(0)), none);
 }
 
@@ -82,21 +87,21 @@ fn fields_by_level(rt: HostRuntime) -> Result<(), Fail> {
 fn rows_of_an_early_file(rt: HostRuntime) -> Result<(), Fail> {
     let early = early_file();
     let file = JudgedFile::of(&early);
-    assert_eq!(rt; file.row(4, 1, 1)?, (80, 4));
-    assert_eq!(rt; file.row(5, 1, 4)?, (92, 8));
-    assert_eq!(rt; file.row(6, 1, 7)?, (116, 4));
-    assert_eq!(rt; file.row(6, 2, 6)?, (148, 8));
-    assert_eq!(rt; file.row_part(4, 2, 7)?, [156u8, 157, 158, 159].as_slice());
-    assert_eq!(rt; refused(file.row(0, 1, 1)), Some((19, 5, 0, 0)));
-    assert_eq!(rt; refused(file.row(3, 9, 1)), Some((37, 5, 0, 0)));
-    assert_eq!(rt; refused(file.row(4, 0, 1)), Some((16, 5, 0, 0)));
-    assert_eq!(rt; refused(file.row(4, 3, 1)), Some((16, 5, 0, 0)));
-    assert_eq!(rt; refused(file.row(4, 1, 0)), Some((16, 5, 0, 0)));
-    assert_eq!(rt; refused(file.row(4, 1, 8)), Some((16, 5, 0, 0)));
+    assert_eq!(rt; file.row(at(4, 1, 1))?, (80, 4));
+    assert_eq!(rt; file.row(at(5, 1, 4))?, (92, 8));
+    assert_eq!(rt; file.row(at(6, 1, 7))?, (116, 4));
+    assert_eq!(rt; file.row(at(6, 2, 6))?, (148, 8));
+    assert_eq!(rt; file.row_part(at(4, 2, 7))?, [156u8, 157, 158, 159].as_slice());
+    assert_eq!(rt; refused(file.row(at(0, 1, 1))), Some((19, 5, 0, 0)));
+    assert_eq!(rt; refused(file.row(at(3, 9, 1))), Some((37, 5, 0, 0)));
+    assert_eq!(rt; refused(file.row(at(4, 0, 1))), Some((16, 5, 0, 0)));
+    assert_eq!(rt; refused(file.row(at(4, 3, 1))), Some((16, 5, 0, 0)));
+    assert_eq!(rt; refused(file.row(at(4, 1, 0))), Some((16, 5, 0, 0)));
+    assert_eq!(rt; refused(file.row(at(4, 1, 8))), Some((16, 5, 0, 0)));
     let bytes = example_file();
     let plain = JudgedFile::of(&bytes);
-    assert_eq!(rt; plain.row(6, 1, 6)?, (152, 8));
-    assert_eq!(rt; refused(plain.row_part(6, 1, 7)), Some((16, 5, 0, 0)));
+    assert_eq!(rt; plain.row(at(6, 1, 6))?, (152, 8));
+    assert_eq!(rt; refused(plain.row_part(at(6, 1, 7))), Some((16, 5, 0, 0)));
     Ok(())
 }
 
@@ -106,11 +111,11 @@ fn numbers_of_a_row(rt: HostRuntime) -> Result<(), Fail> {
     let file = JudgedFile::of(&early);
     let mut list = [5u32; 3];
     assert_eq!(rt;
-        refused(file.numbers(4, 1, 4, &mut list[0..1])),
+        refused(file.numbers(at(4, 1, 4), &mut list[0..1])),
         Some((22, 5, 0, 2))
     );
     assert_eq!(rt; list, [5, 5, 5]);
-    file.numbers(4, 1, 4, &mut list)?;
+    file.numbers(at(4, 1, 4), &mut list)?;
     // bytes 92 to 99: 0x5C5D5E5F and 0x60616263
     assert_eq!(rt; list, [1549622879, 1616994915, 5]);
     Ok(())

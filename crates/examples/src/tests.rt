@@ -1,7 +1,7 @@
 //! The ten checks of judging, each at both sides of its edge, the versions and kinds, and the moves in a buffer.
 use crate::example_file;
 use crate::refusals::{Told, refused};
-use buffers::{shift_down, shift_up, write_bytes, write_word16, write_word32, zero_bytes};
+use buffers::{shift_down, shift_up, write_bytes, write_word, zero_bytes};
 use format::judge;
 use std::alloc::{AllocError, Global};
 use std::test::Fail;
@@ -243,8 +243,8 @@ fn moves_in_a_buffer(rt: HostRuntime) {
     assert!(rt; zero_bytes(&mut buf, 5, 3));
     assert!(rt; write_bytes(&mut buf, 6, &[9, 8]));
     assert_eq!(rt; buf, [1, 3, 4, 5, 6, 0, 9, 8]);
-    assert!(rt; write_word32(&mut buf, 0, 16909060));
-    assert!(rt; write_word16(&mut buf, 4, 1286));
+    assert!(rt; write_word(&mut buf, 0, 16909060u32));
+    assert!(rt; write_word(&mut buf, 4, 1286u16));
     assert_eq!(rt; buf, [1, 2, 3, 4, 5, 6, 9, 8]);
 }
 
@@ -257,7 +257,7 @@ fn moves_past_the_end_change_nothing(rt: HostRuntime) {
     assert!(rt; !shift_down(&mut buf, 2, 3, 1));
     assert!(rt; !zero_bytes(&mut buf, 4, 1));
     assert!(rt; !write_bytes(&mut buf, 3, &[9, 9]));
-    assert!(rt; !write_word16(&mut buf, 18446744073709551615, 7));
-    assert!(rt; !write_word32(&mut buf, 1, 7));
+    assert!(rt; !write_word(&mut buf, 18446744073709551615, 7u16));
+    assert!(rt; !write_word(&mut buf, 1, 7u32));
     assert_eq!(rt; buf, [1, 2, 3, 4]);
 }

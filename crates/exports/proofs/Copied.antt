@@ -1,10 +1,9 @@
 -- Lists copied from one place on, stretch by stretch.
 use Rattle.std.proofs.Common.{◌≡◌, ℕ, zero, suc, ◌+◌, ◌-◌, ◌≤◌, List, ◌∷◌, ◌++◌, map, length, take, drop, sym, ap, ◌∙◌, append_assoc, arith}
 use Rattle.std.proofs.lemmas.List.FromFn.{length-map-range_with_len}
-use Rattle.std.proofs.lemmas.List.{take_at, drop_at, drop-drop, length-append, length-take-le, map-append, take-append-drop}
+use Rattle.std.proofs.lemmas.List.{take_at, drop_at, drop-drop, length-append, length-take-le, map-append}
 use Rattle.std.specs.List.{range_with_len}
 use Rattle.reader.specs.Answers.{filled}
-use Rattle.reader.proofs.Fill.{fill_all}
 use Rattle.exports.specs.Rows.{copied}
 
 -- two stretches of numbers in a row
@@ -23,12 +22,6 @@ map_counting_append f a m e from to =
     let whole : m - a + (e - m) ≡ e - a = omega arith in
     sym (map-append f (range_with_len a (m - a)) (range_with_len m (e - m)))
     ∙ ap (map f) (counting_append a (m - a) (e - m) m (omega arith) ∙ ap (range_with_len a) whole)
-
--- nothing copied
-pub written_none : (f : ℕ → ℕ) (a : ℕ) (old : List ℕ) → old ≡ copied f a a old
-written_none f a old =
-    let none : a - a ≡ 0 = omega arith in
-    sym (take-append-drop a old) ∙ ap (λ (n : ℕ). take a old ++ (map f (range_with_len a n) ++ drop a old)) (sym none)
 
 -- one stretch behind the other
 both_written : (f : ℕ → ℕ) (a m e : ℕ) (old : List ℕ) → a ≤ m → m ≤ e → e ≤ length old
@@ -60,4 +53,5 @@ written_more f a m e old now next this that from to inside = that ∙ ap (copied
 pub written_all : (f : ℕ → ℕ) (n : ℕ) (old : List ℕ) → copied f 0 n old ≡ filled (map f (range_with_len 0 n)) old
 written_all f n old =
     let all : n - 0 ≡ n = omega arith in
-    ap (λ (x : ℕ). map f (range_with_len 0 x) ++ drop n old) all ∙ fill_all f old n
+    ap (λ (x : ℕ). map f (range_with_len 0 x) ++ drop n old) all
+    ∙ ap (λ (k : ℕ). map f (range_with_len 0 n) ++ drop k old) (sym (length-map-range_with_len f 0 n))

@@ -1,7 +1,6 @@
 -- Where a row's numbers stand among all numbers, and how they are copied.
 use borrow.Rule.Slice.PartMut.{put_mid}
-use Rattle.std.proofs.Common.{◌≡◌, ℕ, ◌+◌, ◌-◌, ◌*◌, ◌/◌, ◌<◌, ◌≤◌, Bool, true, false, List, [], ◌++◌, map, length, get_or, take, drop, Ok, sum, Result, sym, refl, ap, ◌∙◌, mul_assoc, add-mul, mul-add, arith}
-use Rattle.std.proofs.lemmas.Nat.{mul-le}
+use Rattle.std.proofs.Common.{◌≡◌, ℕ, zero, suc, ◌+◌, ◌-◌, ◌*◌, ◌/◌, ◌<◌, ◌≤◌, ◌⊎◌, Bool, true, false, List, [], ◌++◌, map, length, get_or, take, drop, Ok, sum, Result, sym, refl, ap, ◌∙◌, inl, inr, ⊎_elim, mul_assoc, add-mul, mul-add, arith}
 use Rattle.std.proofs.lemmas.List.FromFn.{length-map-range_with_len, get_or-map-range_with_len}
 use Rattle.std.proofs.lemmas.List.{same_lists, take_all, length-take-le, length-drop, drop-drop, drop_all, take_rest, append-nil}
 use Rattle.std.proofs.lemmas.List.Sums.{sum_by_more}
@@ -12,14 +11,14 @@ use Rattle.faults.specs.declared.fault.Fault.{Fault}
 use Rattle.format.specs.declared.judging.Layout.{Layout}
 use Rattle.format.specs.Checks.{◌with◌}
 use Rattle.format.specs.Rows.{row_widths, bin_width, cells_size}
-use Rattle.reader.specs.Answers.{part, patterns, filled, width_before, width_of, row_span, numbers_answer, numbers_list}
+use Rattle.reader.specs.Answers.{part, patterns, filled, width_before, width_of, row_span, row_answer, numbers_answer, numbers_list}
 use Rattle.reader.specs.Levels.{held, enough_room}
 use Rattle.reader.proofs.Agree.{part_word, agreed}
-use Rattle.reader.proofs.Asked.{row_answered}
+use Rattle.reader.proofs.Asked.{row_asked, row_answered}
 use Rattle.reader.proofs.Place.{placed}
 use Rattle.reader.proofs.Spans.{row_within, span_within}
 use Rattle.exports.specs.Rows.{number_at, count_of, copy_answer, copy_list, bytes_before, copied}
-use Rattle.exports.proofs.Copied.{written_all}
+use Rattle.exports.proofs.Copied.{written_all, written_more}
 
 -- the cell is one of the file's, and the row one of a cell's
 abbrev pub CellOf : Layout → ℕ → Type 0
@@ -35,10 +34,6 @@ row_ends l cell row cells rows =
     let s = l.sizes in
     let q = s.quality in
     span_within cell s.ranges s.bins (width_before q row) (width_of q row) (bin_width q) cells.0 cells.1 (row_within q row rows.0 rows.1)
-
--- and begins within a list that has room for all numbers
-pub row_begins : (l : Layout) (cell row at room : ℕ) → CellOf l cell → RowOf l row → 4 * at ≡ bytes_before l cell row → count_of l ≤ room → at ≤ room
-row_begins l cell row at room cells rows begin fits = omega (arith, row_ends l cell row cells rows)
 
 -- the next row begins there
 pub next_row : (l : Layout) (cell row : ℕ) → RowOf l row
@@ -126,16 +121,89 @@ cells_end l =
     let all : (s.ranges + 1 - 1) * (s.bins * w) ≡ s.ranges * (s.bins * w) = ap (λ (x : ℕ). x * (s.bins * w)) is in
     omega (arith, mul_assoc s.ranges s.bins w)
 
--- the cells of a file have few bytes
-few_bytes : (quality : Bool) → bin_width quality ≤ 40
-few_bytes true = omega arith
-few_bytes false = omega arith
+-- every row has 4 or 8 bytes to a bin
+four_or_eight : (quality : Bool) (row : ℕ) → 1 ≤ row → row ≤ length (row_widths quality) → (width_of quality row ≡ 4) ⊎ (width_of quality row ≡ 8)
+four_or_eight quality zero from to = absurd (omega arith)
+four_or_eight quality (suc zero) from to = inl refl
+four_or_eight quality (suc (suc zero)) from to = inl refl
+four_or_eight quality (suc (suc (suc zero))) from to = inl refl
+four_or_eight quality (suc (suc (suc (suc zero)))) from to = inr refl
+four_or_eight quality (suc (suc (suc (suc (suc zero))))) from to = inr refl
+four_or_eight quality (suc (suc (suc (suc (suc (suc zero)))))) from to = inr refl
+four_or_eight true (suc (suc (suc (suc (suc (suc (suc zero))))))) from to = inl refl
+four_or_eight true (suc (suc (suc (suc (suc (suc (suc (suc row)))))))) from to = absurd (omega arith)
+four_or_eight false (suc (suc (suc (suc (suc (suc (suc row))))))) from to = absurd (omega arith)
 
-pub cells_small : (b : List ℕ) (l : Layout) → held b ≡ Ok l → cells_size l.sizes ≤ 8192 * 32768 * 40
-cells_small b l h =
-    let s = l.sizes in
-    let p = placed b l h in
-    mul-le (s.ranges * s.bins) (bin_width s.quality) (8192 * 32768) 40 (mul-le s.ranges s.bins 8192 32768 p.ranges_to p.bins_to) (few_bytes s.quality)
+-- so its bytes are whole numbers
+whole_numbers : (l : Layout) (row : ℕ) → RowOf l row → 4 * (l.sizes.bins * width_of l.sizes.quality row / 4) ≡ l.sizes.bins * width_of l.sizes.quality row
+whole_numbers l row rows =
+    let bins = l.sizes.bins in
+    ⊎_elim
+    (λ (e : width_of l.sizes.quality row ≡ 4). rw e (omega arith))
+    (λ (e : width_of l.sizes.quality row ≡ 8). rw e (omega arith))
+    (four_or_eight l.sizes.quality row rows.0 rows.1)
+
+-- a row that is copied from a place on ends there
+answered_ends : (l : Layout) (cell row at : ℕ) (p : ℕ × ℕ) → CellOf l cell → RowOf l row → row_span l cell row ≡ p → 4 * at ≡ bytes_before l cell row
+    → (4 * (at + p.1 / 4) ≡ bytes_before l cell row + l.sizes.bins * width_of l.sizes.quality row) × (at + p.1 / 4 ≤ count_of l)
+answered_ends l cell row at p cells rows span begin =
+    let size : l.sizes.bins * width_of l.sizes.quality row ≡ p.1 = ap (λ (x : ℕ × ℕ). x.1) span in
+    let whole = whole_numbers l row rows in
+    let quarter : l.sizes.bins * width_of l.sizes.quality row / 4 ≡ p.1 / 4 = ap (λ (x : ℕ). x / 4) size in
+    let ends = row_ends l cell row cells rows in
+    (omega arith, omega arith)
+
+-- its numbers have room in the rest of the list
+pub answered_fits : (b : List ℕ) (l : Layout) (cell row at : ℕ) (old now : List ℕ) (p : ℕ × ℕ) → held b ≡ Ok l → Ok p ≡ row_answer b 6 cell row
+    → 4 * at ≡ bytes_before l cell row → count_of l ≤ length old → length now ≡ length old
+    → numbers_answer b 6 cell row (length (take (length now - at) (drop at now))) ≡ Ok tt
+answered_fits b l cell row at old now p h e begin fits long =
+    let o = row_asked b l 6 cell row p h (sym e) in
+    let ends = answered_ends l cell row at p (o.cell_from, o.cell_to) (o.row_from, o.row_to) o.span begin in
+    let behind : length (drop at now) ≡ length now - at = length-drop at now in
+    let rest : length (take (length now - at) (drop at now)) ≡ length now - at = length-take-le (length now - at) (drop at now) (omega arith) in
+    let room = length (take (length now - at) (drop at now)) in
+    ap (λ (x : Result (ℕ × ℕ) Fault). x with λ q. enough_room (q.1 / 4) room) (sym e)
+    ∙ rw (le-leb (p.1 / 4) room (omega (arith, ends.1))) refl
+
+-- a row that is answered, copied behind those before it
+pub answered_copied : (b : List ℕ) (l : Layout) (cell row at : ℕ) (old now new : List ℕ) (p : ℕ × ℕ) → held b ≡ Ok l → Ok p ≡ row_answer b 6 cell row
+    → 4 * at ≡ bytes_before l cell row → count_of l ≤ length old → length now ≡ length old → now ≡ copied (number_at b l) 0 at old
+    → new ≡ numbers_list b 6 cell row (take (length now - at) (drop at now))
+    → (4 * (at + p.1 / 4) ≡ bytes_before l cell (row + 1)) × (at + p.1 / 4 ≤ count_of l)
+    × (put_mid at (length now - at) now new ≡ copied (number_at b l) 0 (at + p.1 / 4) old)
+answered_copied b l cell row at old now new p h e begin fits long is f =
+    let o = row_asked b l 6 cell row p h (sym e) in
+    let ends = answered_ends l cell row at p (o.cell_from, o.cell_to) (o.row_from, o.row_to) o.span begin in
+    let end = at + p.1 / 4 in
+    let written = row_written b l cell row at end now new h (o.cell_from, o.cell_to) (o.row_from, o.row_to) begin ends.0 (omega (arith, ends.1)) f in (
+      ends.0 ∙ sym (next_row l cell row (o.row_from, o.row_to)),
+      ends.1,
+      written_more (number_at b l) 0 at end old now _ is written (omega arith) (omega arith) (omega (arith, ends.1)),
+    )
+
+-- the last row of a cell, copied
+pub cell_copied : (b : List ℕ) (l : Layout) (cell row at end : ℕ) (old now new next : List ℕ) (p : ℕ × ℕ) → held b ≡ Ok l → Ok p ≡ row_answer b 6 cell row
+    → 4 * at ≡ bytes_before l cell row → count_of l ≤ length old → length now ≡ length old → now ≡ copied (number_at b l) 0 at old
+    → new ≡ numbers_list b 6 cell row (take (length now - at) (drop at now)) → 1 ≤ cell → row ≡ length (row_widths l.sizes.quality)
+    → end ≡ at + p.1 / 4 → next ≡ put_mid at (length now - at) now new
+    → (4 * end ≡ bytes_before l (cell + 1) 1) × (end ≤ count_of l) × (next ≡ copied (number_at b l) 0 end old)
+cell_copied b l cell row at end old now new next p h e begin fits long is f from last ends whole =
+    let turn = answered_copied b l cell row at old now new p h e begin fits long is f in (
+      ap (λ (x : ℕ). 4 * x) ends ∙ turn.0 ∙ ap (λ (x : ℕ). bytes_before l cell (x + 1)) last ∙ next_cell l cell from,
+      omega (arith, turn.1),
+      whole ∙ turn.2 ∙ ap (λ (x : ℕ). copied (number_at b l) 0 x old) (sym ends),
+    )
+
+-- behind the last cell all are copied
+pub all_copied : (l : Layout) (cell end : ℕ) → 4 * end ≡ bytes_before l (cell + 1) 1 → cell ≡ l.sizes.ranges → end ≡ count_of l
+all_copied l cell end is last =
+    let at-end : bytes_before l (cell + 1) 1 ≡ bytes_before l (l.sizes.ranges + 1) 1 = ap (λ (x : ℕ). bytes_before l (x + 1) 1) last in
+    omega (arith, is, cells_end l)
+
+-- the count of the numbers, as it is computed
+pub has_room : (l : Layout) (width room : ℕ) → width ≡ bin_width l.sizes.quality → l.sizes.ranges * l.sizes.bins * width / 4 ≤ room → count_of l ≤ room
+has_room l width room e fits = let size : l.sizes.ranges * l.sizes.bins * width / 4 ≡ count_of l = ap (λ (w : ℕ). l.sizes.ranges * l.sizes.bins * w / 4) e in omega arith
 
 -- a list that has room for all numbers
 pub copied_answer : (l : Layout) (room end : ℕ) → count_of l ≤ room → end ≡ count_of l → end ≡ copy_answer (Ok l) room

@@ -2,8 +2,8 @@
 use crate::failure::{Failure, number, read_file};
 use crate::words::LEVEL;
 use format::judge;
-use printed::{Asked, RowError, row_patterns};
-use reader::JudgedFile;
+use printed::{RowError, row_patterns};
+use reader::{JudgedFile, RowAt};
 use std::io;
 use std::num::f32_from_bits_with_nan;
 
@@ -17,10 +17,10 @@ fn print_numbers(rt: &HostRuntime, patterns: &[u32]) -> io::Result<()> {
 }
 
 /// Prints the row that is asked for.
-fn row_of_file<'a>(rt: &HostRuntime, name: &'a str, asked: Asked) -> Result<(), Failure<'a>> {
+fn row_of_file<'a>(rt: &HostRuntime, name: &'a str, at: RowAt) -> Result<(), Failure<'a>> {
     let bytes = read_file(rt, name)?;
     judge(bytes.as_slice()).map_err(|fault| Failure::Refused(name, fault))?;
-    match row_patterns(rt.alloc(), &JudgedFile::of(bytes.as_slice()), asked) {
+    match row_patterns(rt.alloc(), &JudgedFile::of(bytes.as_slice()), at) {
         Ok(patterns) => Ok(print_numbers(rt, patterns.as_slice())?),
         Err(RowError::Refused(fault)) => Err(Failure::Refused(name, fault)),
         Err(RowError::OutOfMemory(error)) => Err(Failure::from(error)),
@@ -39,5 +39,5 @@ pub fn row_words<'a>(rt: &HostRuntime, words: &'a [String]) -> Result<(), Failur
         ),
         _ => return Err(Failure::Misused("wrong count of words", "row")),
     };
-    row_of_file(rt, file.as_str(), Asked { cell, row, level })
+    row_of_file(rt, file.as_str(), RowAt { level, cell, row })
 }

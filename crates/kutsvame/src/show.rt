@@ -4,7 +4,7 @@ use crate::failure::{Failure, number, read_file};
 use crate::words::LEVEL;
 use format::{Layout, judge};
 use printed::{FieldLine, Opening, SizesText};
-use reader::JudgedFile;
+use reader::{JudgedFile, RowAt};
 use std::io;
 
 /// Prints a line for each field that a reader of that level sees in the file.
@@ -35,7 +35,12 @@ fn show_accepted<'a>(
         level,
         start,
     })?;
-    match file.row(level, 1, 1) {
+    let first = RowAt {
+        level,
+        cell: 1,
+        row: 1,
+    };
+    match file.row(first) {
         Ok(_) => rt.println(SizesText(layout.sizes))?,
         Err(_) => rt.println("layout unknown at this level")?,
     }

@@ -16,5 +16,5 @@ pub use keys::{FROM_SPACE, Key, PAST_SPACE, key_list, letter};
 pub use named::{Named, quoted};
 pub use overview::{Opening, SizesText};
 pub use refused::Refused;
-pub use rows::{Asked, RowError, row_patterns};
+pub use rows::{RowError, row_patterns};
 pub use table::block_table;

@@ -1,6 +1,5 @@
 //! What is said of a file before its fields: version, level, start and sizes.
-ghost use Rattle.std.specs.Prelude.{◌≡◌, Some};
-ghost use Rattle.format.specs.Shown.{quality_text};
+ghost use Rattle.std.specs.Prelude.{Some};
 ghost use Rattle.printed.specs.Overview.{sizes_text, opening_text};
 
 use format::Sizes;
@@ -20,13 +19,6 @@ pub struct Opening {
 /// The line of the sizes of a file's data.
 #[derive(Drop)]
 pub struct SizesText(pub Sizes);
-
-/// Whether there is a quality row, in words.
-fn quality_word(quality: bool) -> &'static str
-    ensures { result.now ≡ quality_text quality }
-{
-    if quality { "quality" } else { "no quality" }
-}
 
 impl fmt::Display for Opening {
     ghost output = { λ x. Some (opening_text x.version x.level x.start) };
@@ -48,7 +40,7 @@ impl fmt::Display for SizesText {
         let bins = self.0.bins;
         let first = self.0.first;
         let channels = self.0.channels;
-        let quality = quality_word(self.0.quality);
+        let quality = self.0.quality_word();
         write!(
             f,
             "range cells {ranges}, Doppler bins {bins}, first range cell {first}, channels {channels}, {quality}"

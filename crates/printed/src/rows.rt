@@ -4,19 +4,8 @@ ghost use Rattle.printed.specs.declared.rows.RowError.TheVariants.{Refused, OutO
 ghost use Rattle.printed.specs.Patterns.{row_patterns, Holds};
 
 use faults::Fault;
-use reader::JudgedFile;
+use reader::{JudgedFile, RowAt};
 use std::alloc::{AllocError, Global};
-
-/// Which row is asked for, and by a reader of which level.
-#[derive(Drop)]
-pub struct Asked {
-    /// The cell, from 1.
-    pub cell: usize,
-    /// The row, from 1.
-    pub row: usize,
-    /// The reader's level.
-    pub level: usize,
-}
 
 /// Why a row has no list of numbers.
 #[derive(Clone, Copy, PartialEq, Eq, Debug)]
@@ -44,11 +33,11 @@ impl From<AllocError> for RowError {
 }
 
 /// The patterns of a row; refuses as `JudgedFile::row` does.
-pub fn row_patterns(heap: Global, file: &JudgedFile, asked: Asked) -> Result<Vec<u32>, RowError>
-    ensures { Holds vec_items (row_patterns file.now.bytes.now asked.level asked.cell asked.row) result }
+pub fn row_patterns(heap: Global, file: &JudgedFile, at: RowAt) -> Result<Vec<u32>, RowError>
+    ensures { Holds vec_items (row_patterns file.now.bytes.now at.level at.cell at.row) result }
 {
-    let (_, length) = file.row(asked.level, asked.cell, asked.row)?;
+    let (_, length) = file.row(at)?;
     let mut list = vec![in heap; 0; length / 4]?;
-    file.numbers(asked.level, asked.cell, asked.row, list.as_mut_slice())?;
+    file.numbers(at, list.as_mut_slice())?;
     Ok(list)
 }

@@ -18,7 +18,7 @@ use Rattle.reader.specs.Laws.{OneStart, FieldsAgree, RowsAgree, RowsInside, Rows
 use Rattle.reader.specs.Levels.{held}
 use Rattle.reader.proofs.Asked.{RowOf, field_asked, row_asked, block_asked, block_answered, start_answered, table_answered}
 use Rattle.reader.proofs.Place.{held_judged, rules_of, filled_of, placed, reaches}
-use Rattle.reader.proofs.Spans.{parts_in_order, row_within, computed_inside}
+use Rattle.reader.proofs.Spans.{parts_in_order, row_within, row_inside}
 
 -- every extent that the version has leads to where the data begin
 each_extent : (b : List ℕ) (v i : ℕ) → Agrees b v 2 12 → Agrees b v 3 20 → Agrees b v 4 68 → Agrees b v 5 96 → 1 ≤ i → i ≤ 5 → i ≤ v
@@ -67,8 +67,7 @@ rows_agree b l h cell row i j p q e f = sym (row_asked b l i cell row p h e).spa
 span_inside : (l : Layout) (cell row : ℕ) (p : ℕ × ℕ) → RowOf l cell row p → (l.start ≤ p.0) × (p.0 + p.1 ≤ l.start + cells_size l.sizes)
 span_inside l cell row p o =
     let s = l.sizes in
-    let t =
-    computed_inside l cell row (bin_width s.quality) (width_before s.quality row, width_of s.quality row) (o.cell_from, o.cell_to) (o.row_from, o.row_to) refl refl in
+    let t = row_inside l cell row (o.cell_from, o.cell_to) (o.row_from, o.row_to) in
     subst (λ (x : ℕ × ℕ). (l.start ≤ x.0) × (x.0 + x.1 ≤ l.start + cells_size s)) o.span (omega arith, t)
 
 rows_inside : (b : List ℕ) (l : Layout) → held b ≡ Ok l → RowsInside b l

@@ -1,14 +1,23 @@
 -- What an answer tells of its question: the conditions that were passed, and what is answered then.
-use Rattle.std.proofs.Common.{◌≡◌, ℕ, ◌-◌, ◌≤◌, min, Bool, true, false, ◌&&◌, leb, List, ◌∷◌, length, Ok, Err, Result, sym, refl, ap, ◌∙◌, arith}
-use Rattle.std.proofs.lemmas.Bool.{and_parts, leb-true, le-leb}
+use Rattle.std.proofs.Common.{◌≡◌, ℕ, ◌-◌, ◌<◌, ◌≤◌, min, Bool, true, false, ◌&&◌, leb, List, ◌∷◌, length, Some, Ok, Err, Option, Result, IfOk, sym, refl, ap, ◌∙◌, ⊎_elim, arith}
+use Rattle.std.proofs.lemmas.Bool.{and_parts, leb-true, le-leb, lt-leb, cases_lt}
+use Rattle.std.proofs.lemmas.List.FromFn.{length-map-range_with_len, get_or-map-range_with_len}
+use Rattle.std.proofs.lemmas.Option.{slice_get_past, slice_get-get_or}
+use Rattle.std.specs.List.{slice_get}
+use Rattle.std.specs.Option.{ok_or}
 use Rattle.faults.specs.declared.fault.Fault.{Fault}
+use Rattle.faults.specs.declared.refusal.Refusal.TheVariants.{NoSuchBlock}
+use Rattle.faults.specs.Faults.{fault}
 use Rattle.format.specs.declared.judging.Layout.{Layout}
 use Rattle.format.specs.Checks.{Check, unless, all_of, ◌then◌, ◌with◌}
 use Rattle.format.specs.Header.{pattern}
 use Rattle.format.specs.Rows.{row_widths}
+use Rattle.format.specs.Section.{block_end}
 use Rattle.reader.specs.declared.blocks.Entry.{Entry}
-use Rattle.reader.specs.Answers.{block_place, entry_at, row_span, start_by, start_answer, field_answer, row_answer, block_answer, table_answer}
+use Rattle.reader.specs.Answers.{block_place, entry_at, entries, row_span, start_by, start_answer, field_answer, row_answer, block_answer, table_answer}
+use Rattle.reader.specs.Laws.{Placed}
 use Rattle.reader.specs.Levels.{held, level_known, layout_known, row_known, field_conditions, row_conditions, enough_room, blocks_seen, blocks_present, block_known, block_conditions}
+use Rattle.reader.proofs.Place.{block_room}
 
 -- an answer behind a check: the check passed
 pub then_ok : {X : Type 0} (c : Check) (r : Result X Fault) (x : X) → (c then r) ≡ Ok x → (c ≡ Ok tt) × (r ≡ Ok x)
@@ -78,6 +87,43 @@ block_asked b l level k x h e =
     let c4 = then_ok (block_known l k) _ tt c3.1 in
     let among = within 1 k l.blocks (unless_ok _ _ c4.0) in
     record { late = leb-true 6 l.version (unless_ok _ _ c3.0); from = among.0; to = among.1; entry = same_ok entry x q.1 }
+
+-- the walk answers for the block: its entry, or 34 past the last
+pub entry_found : (b : List ℕ) (l : Layout) (k before : ℕ) → 6 ≤ l.version → 1 ≤ k → before ≡ k - 1
+    → ok_or (slice_get (entries b l.blocks) before) (fault NoSuchBlock 0) ≡ (all_of (block_conditions l k) then Ok (entry_at b (block_place b (k - 1))))
+entry_found b l k before late from e =
+    let n = l.blocks in
+    let entry : ℕ → Entry = λ i. entry_at b (block_place b i) in
+    let count : length (entries b n) ≡ n = length-map-range_with_len entry 0 n in
+    ⊎_elim
+    (λ (past : n < k).
+    rw (le-leb 6 l.version late, le-leb 1 k from, lt-leb k n past)
+    (ap (λ (x : Option Entry). ok_or x (fault NoSuchBlock 0)) (slice_get_past (entries b n) before (omega arith))))
+    (λ (to : k ≤ n).
+    let is : slice_get (entries b n) before ≡ Some (entry (k - 1)) =
+    slice_get-get_or (entries b n) before (entry (k - 1)) (omega arith)
+    ∙ ap Some (get_or-map-range_with_len entry 0 n before (k - 1) (entry (k - 1)) (omega arith) (omega arith)) in
+    rw (le-leb 6 l.version late, le-leb 1 k from, le-leb k n to) (ap (λ (x : Option Entry). ok_or x (fault NoSuchBlock 0)) is))
+    (cases_lt n k)
+
+-- an entry that is found is that of the block, which passed its conditions
+pub entry_asked : (b : List ℕ) (l : Layout) (k : ℕ) (e : Entry) → Ok e ≡ (all_of (block_conditions l k) then Ok (entry_at b (block_place b (k - 1))))
+    → (all_of (block_conditions l k) ≡ Ok tt) × (e.place ≡ block_place b (k - 1))
+entry_asked b l k e is =
+    let entry = entry_at b (block_place b (k - 1)) in
+    let q = then_ok (all_of (block_conditions l k)) (Ok entry) e (sym is) in
+    (q.0, ap (λ (x : Entry). x.place) (sym (same_ok entry e q.1)))
+
+-- and it lies in the bytes
+pub entry_inside : (b : List ℕ) (l : Layout) (k : ℕ) (r : Result Entry Fault) → Placed b l
+    → r ≡ (all_of (block_conditions l k) then Ok (entry_at b (block_place b (k - 1)))) → IfOk r (λ e. block_end b e.place ≤ length b)
+entry_inside b l k (Ok e) p is =
+    let q = entry_asked b l k e is in
+    let c1 = then_ok (blocks_present l) _ tt q.0 in
+    let c2 = then_ok (block_known l k) _ tt c1.1 in
+    let among = within 1 k l.blocks (unless_ok _ _ c2.0) in
+    block_room b l k e.place p among.0 among.1 q.1
+entry_inside b l k (Err f) p is = tt
 
 -- a block of the file is answered
 pub block_answered : (b : List ℕ) (l : Layout) (k : ℕ) → held b ≡ Ok l → 6 ≤ l.version → 1 ≤ k → k ≤ l.blocks

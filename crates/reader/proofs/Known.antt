@@ -3,7 +3,10 @@ use Rattle.std.proofs.Common.{◌≡◌, ℕ, Bool, true, false, cond, List, Som
 use Rattle.faults.specs.declared.fault.Fault.{Fault}
 use Rattle.format.specs.declared.judging.Layout.{Layout}
 use Rattle.format.specs.Judging.{judged}
+use Rattle.std.specs.Option.{ok_or}
 use Rattle.std.specs.Result.{result_ok}
+use Rattle.faults.specs.declared.refusal.Refusal.TheVariants.{NoFile}
+use Rattle.faults.specs.Faults.{fault}
 use Rattle.reader.specs.Levels.{accepted, file_layout, held, or_no_file, numbers_of}
 
 same_flag : (p q : Bool) → ◌≡◌ {A = ℕ} (cond p 1 0) (cond q 1 0) → p ≡ q
@@ -38,6 +41,11 @@ same_option None None e = refl
 pub held_by : (b : List ℕ) (x : Option Layout) → numbers_of x ≡ numbers_of (file_layout b) → or_no_file x ≡ held b
 unfolding held
 held_by b x e = ap or_no_file (same_option x (file_layout b) e)
+
+-- and no layout is refused by 31
+pub held_or : (b : List ℕ) (x : Option Layout) (f : Fault) → numbers_of x ≡ numbers_of (file_layout b) → f ≡ fault NoFile 0 → ok_or x f ≡ held b
+held_or b (Some l) f e none = held_by b (Some l) e
+held_or b None f e none = ap Err none ∙ held_by b None e
 
 -- what judging answers is kept
 pub kept_of : (b : List ℕ) (r : Result Layout Fault) (x : Option Layout) → r ≡ judged b → x ≡ result_ok r → numbers_of x ≡ numbers_of (file_layout b)

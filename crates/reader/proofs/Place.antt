@@ -1,9 +1,9 @@
 -- Where the parts of an accepted file stand.
-use Rattle.std.proofs.Common.{◌≡◌, ℕ, zero, suc, ◌+◌, ◌-◌, ◌<◌, ◌≤◌, cond, ltb, List, length, is_ok, IfOk, Ok, Err, Result, sym, refl, ap, ◌∙◌, subst, ⊎_elim, add-one, arith}
+use Rattle.std.proofs.Common.{◌≡◌, ℕ, zero, suc, ◌+◌, ◌-◌, ◌<◌, ◌≤◌, cond, ltb, List, ◌∷◌, map, length, is_ok, IfOk, Ok, Err, Result, sym, refl, ap, ◌∙◌, subst, ⊎_elim, add-one, arith}
 use Rattle.std.proofs.lemmas.Result.{MatchResult-at_ok}
 use Rattle.std.proofs.lemmas.Bool.{cases_lt, lt-ltb}
 use Rattle.std.proofs.lemmas.Bool.Decides.{nat_tests}
-use Rattle.buffers.specs.Words.{word32}
+use Rattle.std.specs.List.{range_with_len}
 use Rattle.faults.specs.declared.fault.Fault.{Fault}
 use Rattle.format.specs.declared.judging.Layout.{Layout}
 use Rattle.format.specs.Checks.{Pass, FirstFails}
@@ -12,7 +12,8 @@ use Rattle.format.specs.Judging.{judged, layout_of, checks, Filled, CutThere}
 use Rattle.format.specs.Section.{block_end, Blocks, none, more}
 use Rattle.format.proofs.InOrder.{first_refusal, says_of_blocks}
 use Rattle.format.proofs.Rules.{Rules, judged_tells}
-use Rattle.reader.specs.Answers.{behind, block_place}
+use Rattle.reader.specs.declared.blocks.Entry.{Entry}
+use Rattle.reader.specs.Answers.{behind, block_place, BlocksInside, entry_at, entries_from, entries}
 use Rattle.reader.specs.Laws.{Placed}
 use Rattle.reader.specs.Levels.{accepted, or_no_file, file_layout, held}
 
@@ -30,11 +31,28 @@ shift : (b : List ℕ) (at n : ℕ) → behind b (block_end b at) n ≡ block_en
 shift b at zero = refl
 shift b at (suc n) = ap (block_end b) (shift b at n)
 
--- the next block begins where this one ends
-pub next_place : (b : List ℕ) (at n : ℕ) → at ≡ block_place b n → at + (8 + word32 b (at + 4)) ≡ block_place b (n + 1)
-next_place b at n e =
-    let sum : at + (8 + word32 b (at + 4)) ≡ block_end b at = omega arith in
-    sum ∙ ap (block_end b) e ∙ ap (block_place b) (sym (add-one n))
+-- the blocks behind the first lie in the bytes too
+pub rest_inside : (b : List ℕ) (at n left : ℕ) (e : Entry) → BlocksInside b at n → left < n → e ≡ entry_at b at → BlocksInside b (at + (8 + e.size)) left
+rest_inside b at n left e inside less is k l =
+    let next : at + (8 + e.size) ≡ block_end b at = ap (λ (x : Entry). at + (8 + x.size)) is ∙ (omega arith) in
+    let there : behind b (at + (8 + e.size)) k ≡ block_end b (behind b at k) = ap (λ (x : ℕ). behind b x k) next ∙ shift b at k in
+    subst (λ (x : ℕ). block_end b x ≤ length b) (sym there) (inside (suc k) (omega arith))
+
+-- it lists as many entries as there are blocks
+pub walk_length : (b : List ℕ) (at n : ℕ) → length (entries_from b at n) ≡ n
+walk_length b at zero = refl
+walk_length b at (suc n) = ap suc (walk_length b (block_end b at) n)
+
+-- a walk from block k on meets that block and the next ones
+along : (b : List ℕ) (k at n : ℕ) → at ≡ block_place b k → entries_from b at n ≡ map (λ i. entry_at b (block_place b i)) (range_with_len k n)
+along b k at zero e = refl
+along b k at (suc n) e =
+    let head = ap (entry_at b) e in
+    let rest = along b (k + 1) (block_end b at) n (ap (block_end b) e ∙ ap (block_place b) (sym (add-one k))) in
+    λ i. head i ∷ rest i
+
+pub walk_meets : (b : List ℕ) (n : ℕ) → entries_from b 104 n ≡ entries b n
+walk_meets b n = along b 0 104 n refl
 
 -- blocks that stand one behind the other end where the last does, and each within the bounds
 pub reaches : {b : List ℕ} {end at to n : ℕ} → Blocks b end at to n → behind b at n ≡ to

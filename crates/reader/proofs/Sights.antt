@@ -1,17 +1,21 @@
 -- What looking at a block shows.
-use Rattle.std.proofs.Common.{◌≡◌, ℕ, ◌+◌, ◌≤◌, Bool, true, false, List, length, IfOk, Ok, Err, MatchBool, Result, sym, refl, ap, ◌∙◌, arith}
+use Rattle.std.proofs.Common.{◌≡◌, ℕ, ◌+◌, ◌-◌, ◌≤◌, Bool, true, false, List, length, IfOk, Ok, Err, MatchBool, Result, sym, refl, ap, ◌∙◌, arith}
 use Rattle.std.proofs.lemmas.Bool.{le-leb}
 use Rattle.std.specs.Str.{bytes_eq}
 use Rattle.faults.specs.declared.fault.Fault.{Fault}
 use Rattle.faults.specs.declared.refusal.Refusal.TheVariants.{Key}
 use Rattle.faults.specs.Faults.{in_block}
 use Rattle.format.specs.declared.judging.Layout.{Layout}
-use Rattle.format.specs.Checks.{Check, unless, ◌then◌, ◌with◌}
+use Rattle.format.specs.Checks.{Check, unless, all_of, ◌then◌, ◌with◌}
+use Rattle.format.specs.Section.{block_end}
 use Rattle.kinds.proofs.Laws.{part_within}
 use Rattle.kinds.specs.declared.kind.Reading.{Reading}
 use Rattle.kinds.specs.Kind.{KindSpec, Keeps, Outcome, accepted, refused}
 use Rattle.kinds.specs.Look.{key_at, size_at, data_at, Located, Looks}
-use Rattle.reader.specs.Answers.{Sight, sight, block_sight, shown}
+use Rattle.reader.specs.declared.blocks.Entry.{Entry}
+use Rattle.reader.specs.Answers.{Sight, sight, block_sight, shown, block_place, entry_at, look_answer}
+use Rattle.reader.specs.Levels.{held, block_conditions}
+use Rattle.reader.proofs.Asked.{entry_asked}
 
 located_shown : {R : Type 0} (numbers : R → List ℕ) (k place : ℕ) (o : Outcome) (r : Result (Reading R) Fault)
     → Located numbers k place o r → shown numbers r ≡ sight k place o
@@ -68,7 +72,15 @@ text_inside numbers kind kept k at b (Ok v) room e =
 text_inside numbers kind kept k at b (Err f) room e = tt
 
 -- where there is a file, and its conditions hold, a question is answered
-pub past_conditions : {X : Type 0} (r : Result Layout Fault) (l : Layout) (u : Unit {0}) (check : Layout → Check) (answer : Result X Fault)
-    → Ok l ≡ r → Ok u ≡ check l → (r with λ m. check m then answer) ≡ answer
-past_conditions r l u check answer e f =
-    ap (λ (x : Result Layout Fault). x with λ m. check m then answer) (sym e) ∙ ap (λ (x : Check). x then answer) (sym f)
+past_conditions : {X : Type 0} (r : Result Layout Fault) (l : Layout) (check : Layout → Check) (answer : Result X Fault)
+    → Ok l ≡ r → check l ≡ Ok tt → (r with λ m. check m then answer) ≡ answer
+past_conditions r l check answer e f = ap (λ (x : Result Layout Fault). x with λ m. check m then answer) (sym e) ∙ ap (λ (x : Check). x then answer) f
+
+-- looking at the block that is asked for shows what the definition says
+pub look_shown : {R : Type 0} (numbers : R → List ℕ) (kind : KindSpec) (b : List ℕ) (l : Layout) (k : ℕ) (e : Entry) (r : Result (Reading R) Fault)
+    → Ok l ≡ held b → Ok e ≡ (all_of (block_conditions l k) then Ok (entry_at b (block_place b (k - 1)))) → block_end b e.place ≤ length b
+    → Looks numbers kind k e.place b r → shown numbers r ≡ look_answer kind b k
+look_shown numbers kind b l k e r file found room h =
+    let asked = entry_asked b l k e found in
+    let passed = past_conditions (held b) l (λ (m : Layout). all_of (block_conditions m k)) (block_sight kind b k (block_place b (k - 1))) file asked.0 in
+    looks_shown numbers kind k e.place b r room h ∙ ap (block_sight kind b k) asked.1 ∙ sym passed

@@ -1,5 +1,5 @@
 -- Where the rows of a cell stand.
-use Rattle.std.proofs.Common.{◌≡◌, ℕ, ◌+◌, ◌-◌, ◌*◌, ◌<◌, ◌≤◌, Bool, List, length, get_or, take, sum, refl, ap, mul_assoc, add-mul, mul-add, arith}
+use Rattle.std.proofs.Common.{◌≡◌, ℕ, ◌+◌, ◌-◌, ◌*◌, ◌<◌, ◌≤◌, Bool, List, length, get_or, take, sum, mul_assoc, add-mul, mul-add, arith}
 use Rattle.std.proofs.lemmas.Nat.{mul-le}
 use Rattle.std.proofs.lemmas.List.{take_all, take-take}
 use Rattle.std.proofs.lemmas.List.Sums.{sum_by_more, sum_by-take-le}
@@ -31,19 +31,11 @@ span_within cell ranges bins before width all from to fits =
     let whole : (cell - 1 + 1) * (bins * all) ≤ ranges * (bins * all) = mul-le (cell - 1 + 1) (bins * all) ranges (bins * all) (omega arith) (omega arith) in
     omega (arith, mul_assoc ranges bins all)
 
--- what is computed from a bin's widths ends within the cells
-pub computed_inside : (l : Layout) (cell row all : ℕ) (p : ℕ × ℕ) → (1 ≤ cell) × (cell ≤ l.sizes.ranges) → (1 ≤ row) × (row ≤ length (row_widths l.sizes.quality))
-    → p ≡ (width_before l.sizes.quality row, width_of l.sizes.quality row) → all ≡ bin_width l.sizes.quality
-    → l.start + (cell - 1) * (l.sizes.bins * all) + l.sizes.bins * p.0 + l.sizes.bins * p.1 ≤ l.start + cells_size l.sizes
-computed_inside l cell row all p cells rows e f =
+-- a row of the file ends within the cells
+pub row_inside : (l : Layout) (cell row : ℕ) → (1 ≤ cell) × (cell ≤ l.sizes.ranges) → (1 ≤ row) × (row ≤ length (row_widths l.sizes.quality))
+    → (row_span l cell row).0 + (row_span l cell row).1 ≤ l.start + cells_size l.sizes
+row_inside l cell row cells rows =
     let s = l.sizes in
-    let fits : p.0 + p.1 ≤ all = rw (e, f) (row_within s.quality row rows.0 rows.1) in
-    let t = span_within cell s.ranges s.bins p.0 p.1 all cells.0 cells.1 fits in
-    let size : s.ranges * s.bins * all ≡ cells_size s = ap (λ (x : ℕ). s.ranges * s.bins * x) f in
+    let t =
+    span_within cell s.ranges s.bins (width_before s.quality row) (width_of s.quality row) (bin_width s.quality) cells.0 cells.1 (row_within s.quality row rows.0 rows.1) in
     omega arith
-
--- and is the row's place and length
-pub computed_span : (l : Layout) (cell row all : ℕ) (p : ℕ × ℕ)
-    → p ≡ (width_before l.sizes.quality row, width_of l.sizes.quality row) → all ≡ bin_width l.sizes.quality
-    → ◌≡◌ {A = ℕ × ℕ} (l.start + (cell - 1) * (l.sizes.bins * all) + l.sizes.bins * p.0, l.sizes.bins * p.1) (row_span l cell row)
-computed_span l cell row all p e f = rw (e, f) refl

@@ -1,5 +1,5 @@
 -- The answers of a judged file to each question: what is asked first, and then what is answered.
-use Rattle.std.specs.Prelude.{ℕ, zero, suc, ◌+◌, ◌-◌, ◌*◌, ◌/◌, min, Bool, List, ◌∷◌, ◌++◌, map, length, take, drop, Ok, Err, sum, Result, slice_index}
+use Rattle.std.specs.Prelude.{ℕ, zero, suc, ◌+◌, ◌-◌, ◌*◌, ◌/◌, ◌<◌, ◌≤◌, min, Bool, List, [], ◌∷◌, ◌++◌, map, length, take, drop, Ok, Err, sum, Result, slice_index}
 use Rattle.std.specs.List.{range_with_len}
 use Rattle.std.specs.Str.{bytes_eq}
 use Rattle.buffers.specs.Words.{word32}
@@ -88,6 +88,10 @@ behind b at (suc n) = block_end b (behind b at n)
 abbrev pub block_place : List ℕ → ℕ → ℕ
 block_place b n = behind b 104 n
 
+-- n blocks that stand one behind the other from a place on end within the bytes
+abbrev pub BlocksInside : List ℕ → ℕ → ℕ → Type 0
+BlocksInside b at n = (k : ℕ) → k < n → block_end b (behind b at k) ≤ length b
+
 -- what a block's head says: its key, where it begins, and the size of its data
 abbrev pub entry_at : List ℕ → ℕ → Entry
 entry_at b at = record { key = word32 b at; place = at; size = word32 b (at + 4) }
@@ -100,6 +104,11 @@ block_answer b level k =
 -- table: the count of blocks, for which there must be room
 abbrev pub table_answer : List ℕ → ℕ → Result ℕ Fault
 table_answer b room = held b with λ l. enough_room l.blocks room then Ok l.blocks
+
+-- the entries of n blocks that stand one behind the other from a place on
+abbrev pub entries_from : List ℕ → ℕ → ℕ → List Entry
+entries_from b at zero = []
+entries_from b at (suc n) = entry_at b at ∷ entries_from b (block_end b at) n
 
 -- the entries of the first n blocks
 abbrev pub entries : List ℕ → ℕ → List Entry

@@ -1,12 +1,14 @@
 //! Blocks: one by its number, one read as a kind, and all of them in a table.
-ghost use Rattle.std.specs.Prelude.{◌≡◌, ℕ, ◌+◌, ◌-◌, ◌<◌, ◌≤◌, length, IfOk, OnOk};
-ghost use Rattle.format.specs.Checks.{all_of};
+ghost use Rattle.std.specs.Prelude.{◌≡◌, ℕ, ◌+◌, ◌-◌, ◌<◌, ◌≤◌, length, Ok, IfOk};
+ghost use Rattle.std.specs.Iterator.{YieldsFirst, at_most};
+ghost use Rattle.format.specs.Checks.{all_of, ◌then◌};
 ghost use Rattle.format.specs.Section.{block_end};
-ghost use Rattle.reader.specs.Answers.{block_place, entry_at, entries, filled, block_answer, table_answer, table_list, shown, look_answer};
+ghost use Rattle.reader.specs.Answers.{block_place, entry_at, entries, entries_from, filled, BlocksInside, block_answer, table_answer, table_list, shown, look_answer};
+ghost use Rattle.reader.specs.Laws.{Placed};
 ghost use Rattle.reader.specs.Levels.{block_conditions};
 
 use crate::judged::{JudgedFile, check_level};
-use buffers::word32_at;
+use buffers::Word;
 use faults::{Fault, Refusal};
 use format::Layout;
 use kinds::{Kind, Reading, look_at};
@@ -28,54 +30,77 @@ fn read_entry(bytes: &[u8], at: usize) -> Entry
     ensures { result ≡ entry_at bytes.now at }
 {
     Entry {
-        key: word32_at(bytes, at),
+        key: u32::at(bytes, at),
         place: at,
-        size: word32_at(bytes, at + 4) as usize,
+        size: u32::at(bytes, at + 4) as usize,
     }
 }
 
-/// Where the block begins that has `before` others before it: walks over them.
-fn find_block(bytes: &[u8], before: usize) -> usize
-    requires { (k : ℕ) → k < before → block_end bytes.now (block_place bytes.now k) ≤ length bytes.now }
-    ensures { result ≡ block_place bytes.now before }
-{
-    let mut at = 104;
-    for _i in 0..before {
-        let entry = read_entry(bytes, at);
-        at += 8 + entry.size;
-    }
-    at
+/// The blocks that are left from a place on, one behind the other: a walk over their heads.
+#[derive(Drop)]
+struct Heads<'a> {
+    bytes: &'a [u8],
+    at: usize,
+    left: usize,
+    ghost inside: { BlocksInside bytes.now at left },
 }
 
-/// Puts the entries of the first `count` blocks into the table: walks over them.
-fn list_blocks(bytes: &[u8], count: usize, table: &mut [Entry])
-    requires count_in_bounds { count ≤ length table.old }
-    requires by_index { (k : ℕ) → k < count → block_end bytes.now (block_place bytes.now k) ≤ length bytes.now }
-    ensures { table.new ≡ filled (entries bytes.now count) table.old }
-{
-    let mut at = 104;
-    for i in 0..count {
-        let entry = read_entry(bytes, at);
-        table[i] = entry;
-        at += 8 + entry.size;
+impl<'a> Iterator for Heads<'a> {
+    type Item = Entry;
+
+    ghost next_gives = { YieldsFirst (λ heads. entries_from heads.bytes.now heads.at heads.left) };
+
+    ghost remaining = { λ heads. at_most heads.left };
+
+    fn next(&mut self) -> Option<Entry> {
+        self.left = self.left.checked_sub(1)?;
+        let entry = read_entry(self.bytes, self.at);
+        self.at += 8 + entry.size;
+        Some(entry)
     }
 }
 
-/// Refuses 33 and 34, as a block is asked for.
-fn check_block(layout: Layout, number: usize) -> Result<(), Fault>
-    ensures exact { result ≡ all_of (block_conditions layout number) }
-    ensures known { OnOk result ((1 ≤ number) × (number ≤ layout.blocks)) }
-{
-    if layout.version < 6 {
-        return Err(Fault::at(Refusal::VersionLacksIt, 0));
+impl<'a> Heads<'a> {
+    /// Puts the entries of the blocks at the start of the table.
+    fn list(self, table: &mut [Entry])
+        requires { self.left ≤ length table.old }
+        ensures { table.new ≡ filled (entries_from self.entry.bytes.now self.entry.at self.entry.left) table.old }
+    {
+        // By number, and not by `table.iter_mut().zip(self)`: of a table that was lent so, a proof knows no element.
+        for (i, entry) in self.enumerate() {
+            table[i] = entry;
+        }
     }
-    if number < 1 || number > layout.blocks {
-        return Err(Fault::at(Refusal::NoSuchBlock, 0));
-    }
-    Ok(())
 }
 
 impl<'a> JudgedFile<'a> {
+    /// The heads of all blocks.
+    fn heads(&self, layout: Layout) -> Heads<'a>
+        requires { Placed self.now.bytes.now layout }
+        ensures all { entries_from result.bytes.now result.at result.left ≡ entries self.now.bytes.now layout.blocks }
+        ensures count { result.left ≡ layout.blocks }
+    {
+        Heads {
+            bytes: self.bytes,
+            at: 104,
+            left: layout.blocks,
+        }
+    }
+
+    /// The entry of a block; refuses 33 below version 6, and 34 for no such block.
+    fn entry(&self, layout: Layout, number: usize) -> Result<Entry, Fault>
+        requires { Placed self.now.bytes.now layout }
+        ensures exact { result ≡ (all_of (block_conditions layout number) then Ok (entry_at self.now.bytes.now (block_place self.now.bytes.now (number - 1)))) }
+        ensures inside { IfOk result (λ entry. block_end self.now.bytes.now entry.place ≤ length self.now.bytes.now) }
+    {
+        if layout.version < 6 {
+            return Err(Fault::at(Refusal::VersionLacksIt, 0));
+        }
+        let none = Fault::at(Refusal::NoSuchBlock, 0);
+        let before = number.checked_sub(1).ok_or(none)?;
+        self.heads(layout).nth(before).ok_or(none)
+    }
+
     /// The entry of a block, for a reader of that level; refuses 31, 19, 20 below level 6, 33 below version 6, and 34 for no
     /// such block.
     pub fn block(&self, level: usize, number: usize) -> Result<Entry, Fault>
@@ -86,9 +111,7 @@ impl<'a> JudgedFile<'a> {
         if level < 6 {
             return Err(Fault::at(Refusal::LevelTooLow, 0));
         }
-        check_block(layout, number)?;
-        let at = find_block(self.bytes, number - 1);
-        Ok(read_entry(self.bytes, at))
+        self.entry(layout, number)
     }
 
     /// The entries of all blocks, at the start of the table, the rest of which stays; answers their count, 0 below version 6.
@@ -101,19 +124,19 @@ impl<'a> JudgedFile<'a> {
         if layout.blocks > table.len() {
             return Err(Fault::at(Refusal::ListOrTableTooShort, layout.blocks));
         }
-        list_blocks(self.bytes, layout.blocks, table);
+        self.heads(layout).list(table);
         Ok(layout.blocks)
     }
 
     /// A block read as a kind: its record, its text as a place and a length in the file, and the bytes used. Refuses 31, 33
     /// below version 6, 34 for no such block, 12 for another key, and then as the kind does.
+    #[tactic(auto, using(crate::proofs::Sights::look_shown))]
     pub fn look<K: Kind>(&self, number: usize) -> Result<Reading<K::Record>, Fault>
         ensures answer { shown K.numbers result ≡ look_answer K.kind self.now.bytes.now number }
         ensures inside { IfOk result (λ v. v.text + v.length ≤ length self.now.bytes.now) }
     {
         let layout = self.layout()?;
-        check_block(layout, number)?;
-        let at = find_block(self.bytes, number - 1);
-        look_at::<K>(self.bytes, at, number)
+        let entry = self.entry(layout, number)?;
+        look_at::<K>(self.bytes, entry.place, number)
     }
 }

@@ -1,71 +1,88 @@
 //! Fields: their levels and places, and the pattern of one.
-ghost use Rattle.std.specs.Prelude.{◌≡◌, ◌≤◌, OnOk};
-ghost use Rattle.format.specs.Checks.{all_of};
+ghost use Rattle.std.specs.Prelude.{◌≡◌, ◌≤◌, IfOk};
+ghost use Rattle.format.specs.Checks.{all_of, passed};
 ghost use Rattle.format.specs.Header.{the_field, pattern};
 ghost use Rattle.reader.specs.Answers.{field_answer};
-ghost use Rattle.reader.specs.Levels.{field_conditions};
+ghost use Rattle.reader.specs.Levels.{field_known, field_conditions};
 
 use crate::judged::{JudgedFile, check_level};
-use buffers::{word16_at, word32_at};
+use buffers::Word;
 use faults::{Fault, Refusal};
 use format::Layout;
 
-/// The level from which a file has that field.
-fn field_level(number: usize) -> usize
-    requires { (1 ≤ number) × (number ≤ 20) }
-    ensures { result ≡ (the_field number).level }
-{
-    match number {
-        1..=3 => number,
-        4..=14 => 4,
-        _ => 5,
+/// A field of the header, by its number, which is one of 1 to 20.
+#[derive(Clone, Copy, PartialEq, Eq, Debug)]
+struct Field {
+    number: usize,
+    ghost known: { (1 ≤ number) × (number ≤ 20) },
+}
+
+impl TryFrom<usize> for Field {
+    type Error = Fault;
+
+    // Refuses 18 for no such field.
+    ghost try_from_gives = { λ number result.
+        (passed result ≡ field_known number) × IfOk result (λ field. field.number ≡ number) };
+
+    fn try_from(number: usize) -> Result<Field, Fault> {
+        match number {
+            1..=20 => Ok(Field { number }),
+            _ => Err(Fault::at(Refusal::NoSuchField, 0)),
+        }
     }
 }
 
-/// Where that field stands.
-fn field_place(number: usize) -> usize
-    requires { (1 ≤ number) × (number ≤ 20) }
-    ensures { result ≡ (the_field number).place }
-{
-    match number {
-        1 => 2,
-        2 => 10,
-        3 => 16,
-        4..=14 => 24 + 4 * (number - 4),
-        _ => 72 + 4 * (number - 15),
+impl Field {
+    /// The level from which a file has the field.
+    fn level(self) -> usize
+        ensures { result ≡ (the_field self.number).level }
+    {
+        match self.number {
+            1..=3 => self.number,
+            4..=14 => 4,
+            _ => 5,
+        }
+    }
+
+    /// Where the field stands.
+    fn place(self) -> usize
+        ensures { result ≡ (the_field self.number).place }
+    {
+        match self.number {
+            1 => 2,
+            2 => 10,
+            3 => 16,
+            4..=14 => 24 + 4 * (self.number - 4),
+            _ => 72 + 4 * (self.number - 15),
+        }
+    }
+
+    /// The pattern of the field.
+    fn pattern(self, bytes: &[u8]) -> u32
+        ensures { result ≡ pattern bytes.now self.number }
+    {
+        if self.number == 2 {
+            u16::at(bytes, self.place()) as u32
+        } else {
+            u32::at(bytes, self.place())
+        }
     }
 }
 
-/// The pattern of that field.
-fn read_field(bytes: &[u8], number: usize) -> u32
-    requires { (1 ≤ number) × (number ≤ 20) }
-    ensures { result ≡ pattern bytes.now number }
-{
-    let place = field_place(number);
-    if number == 2 {
-        word16_at(bytes, place) as u32
-    } else {
-        word32_at(bytes, place)
-    }
-}
-
-/// Refuses 19, 18, 20 and 33, as a field is asked for.
-fn check_field(layout: Layout, level: usize, number: usize) -> Result<(), Fault>
-    ensures exact { result ≡ all_of (field_conditions layout level number) }
-    ensures known { OnOk result ((1 ≤ number) × (number ≤ 20)) }
+/// The field of that number, as it is asked for; refuses 19, 18, 20 and 33.
+fn check_field(layout: Layout, level: usize, number: usize) -> Result<Field, Fault>
+    ensures refuses { passed result ≡ all_of (field_conditions layout level number) }
+    ensures same { IfOk result (λ field. field.number ≡ number) }
 {
     check_level(level)?;
-    if number < 1 || number > 20 {
-        return Err(Fault::at(Refusal::NoSuchField, 0));
-    }
-    let lowest = field_level(number);
-    if lowest > level {
+    let field = Field::try_from(number)?;
+    if field.level() > level {
         return Err(Fault::at(Refusal::LevelTooLow, 0));
     }
-    if lowest > layout.version as usize {
+    if field.level() > layout.version as usize {
         return Err(Fault::at(Refusal::VersionLacksIt, 0));
     }
-    Ok(())
+    Ok(field)
 }
 
 impl<'a> JudgedFile<'a> {
@@ -75,7 +92,7 @@ impl<'a> JudgedFile<'a> {
         ensures { result ≡ field_answer self.now.bytes.now level number }
     {
         let layout = self.layout()?;
-        check_field(layout, level, number)?;
-        Ok(read_field(self.bytes, number))
+        let field = check_field(layout, level, number)?;
+        Ok(field.pattern(self.bytes))
     }
 }

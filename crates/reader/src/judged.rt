@@ -4,7 +4,7 @@ ghost use Rattle.reader.specs.Answers.{version_answer, start_answer};
 ghost use Rattle.reader.specs.Laws.{Placed, AgreedFile};
 ghost use Rattle.reader.specs.Levels.{held, file_layout, numbers_of, level_known};
 
-use buffers::word32_at;
+use buffers::Word;
 use faults::{Fault, Refusal};
 use format::{Layout, header_end, judge};
 
@@ -18,6 +18,7 @@ pub struct JudgedFile<'a> {
 }
 
 /// Refuses 19 for a level that is none of 1 to 6.
+// A type for levels would be no plainer: no caller needs more of a level than its order among numbers.
 pub(crate) fn check_level(level: usize) -> Result<(), Fault>
     ensures { result ≡ level_known level }
 {
@@ -43,14 +44,12 @@ impl<'a> JudgedFile<'a> {
     }
 
     /// Where the parts of the file stand; refuses 31 if it was refused.
+    #[tactic(auto, using(crate::proofs::Known::held_or, crate::proofs::Place::placed_if))]
     pub fn layout(&self) -> Result<Layout, Fault>
         ensures exact { result ≡ held self.now.bytes.now }
         ensures placed { IfOk result (Placed self.now.bytes.now) }
     {
-        match self.layout {
-            Some(layout) => Ok(layout),
-            None => Err(Fault::at(Refusal::NoFile, 0)),
-        }
+        self.layout.ok_or(Fault::at(Refusal::NoFile, 0))
     }
 
     /// The file's version; refuses 31.
@@ -68,6 +67,6 @@ impl<'a> JudgedFile<'a> {
         let layout = self.layout()?;
         check_level(level)?;
         let end = header_end(level.min(layout.version as usize).min(5) as u16);
-        Ok(end + word32_at(self.bytes, end - 4) as usize)
+        Ok(end + u32::at(self.bytes, end - 4) as usize)
     }
 }

@@ -9,3 +9,4 @@ mod rows;
 
 pub use blocks::Entry;
 pub use judged::JudgedFile;
+pub use rows::{RowAt, row_count};

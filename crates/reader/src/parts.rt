@@ -3,15 +3,16 @@ ghost use Rattle.std.specs.Prelude.{◌≡◌, Ok, Err, MatchResult};
 ghost use Rattle.reader.specs.Answers.{row_part, text_part};
 
 use crate::judged::JudgedFile;
+use crate::rows::RowAt;
 use faults::Fault;
 use kinds::Kind;
 
 impl<'a> JudgedFile<'a> {
     /// The bytes of a row, as a part of the file's; refuses as `row` does.
-    pub fn row_part(&self, level: usize, cell: usize, row: usize) -> Result<&'a [u8], Fault>
-        ensures { MatchResult result (λ p. row_part self.now.bytes.now level cell row ≡ Ok p.now) (λ f. row_part self.now.bytes.now level cell row ≡ Err f) }
+    pub fn row_part(&self, at: RowAt) -> Result<&'a [u8], Fault>
+        ensures { MatchResult result (λ p. row_part self.now.bytes.now at.level at.cell at.row ≡ Ok p.now) (λ f. row_part self.now.bytes.now at.level at.cell at.row ≡ Err f) }
     {
-        let (place, length) = self.row(level, cell, row)?;
+        let (place, length) = self.row(at)?;
         let bytes = self.bytes;
         Ok(&bytes[place..place + length])
     }

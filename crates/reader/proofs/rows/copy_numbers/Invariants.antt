@@ -1,7 +1,6 @@
-use Rattle.std.proofs.Common.{◌≡◌, ◌*◌, ◌++◌, map, drop}
-use Rattle.std.specs.List.{range_with_len}
-use Rattle.buffers.specs.Words.{word32}
+use Rattle.std.proofs.Common.{◌≡◌, length, ◌++◌, take, drop}
+use Rattle.reader.specs.Answers.{patterns}
 use Rattle.reader.proofs.rows.copy_numbers.Given as goal
 
 abbrev pub invariant-loop-i : goal.invariant-loop-i
-invariant-loop-i l = l.list ≡ map (λ j. word32 l.bytes (4 * j)) (range_with_len 0 l.i) ++ drop l.i l.initial.list
+invariant-loop-i l = l.list ≡ take (length l.yielded) (patterns l.bytes) ++ drop (length l.yielded) l.initial.list
