@@ -1,3 +1,4 @@
 pub mod Lines
+pub mod Misuse
 pub mod Verbs
 pub mod Words

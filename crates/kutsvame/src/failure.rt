@@ -1,5 +1,7 @@
 //! What leaves something that the words ask for undone, and what is said of it.
+ghost use Rattle.std.specs.Prelude.{IfErr};
 ghost use Rattle.std.specs.Result.{result_ok};
+ghost use Rattle.kutsvame.specs.Misuse.{NoNumber};
 ghost use Rattle.kutsvame.specs.Words.{Writes};
 
 use crate::help::HELP;
@@ -84,7 +86,8 @@ impl Failure<'_> {
 
 /// The number below 2^64 that a word writes in decimal digits.
 pub fn number(word: &str) -> Result<usize, Failure<'_>>
-    ensures { Writes word.now (result_ok result) }
+    ensures number { Writes word.now (result_ok result) }
+    ensures told { IfErr result (NoNumber word.now) }
 {
     number_named(word).ok_or(Failure::Misused("no decimal number", word))
 }
