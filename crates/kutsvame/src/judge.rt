@@ -6,10 +6,15 @@ ghost use Rattle.kutsvame.specs.Lines.{keys_of, verdict_text};
 use crate::failure::{Failure, read_file};
 use faults::Fault;
 use format::{Layout, judge};
-use printed::{PAST_SPACE, block_table, key_list};
+use printed::{block_table, key_list};
 use reader::JudgedFile;
 use std::alloc::{AllocError, Global};
 use std::io;
+
+/// The first and the last byte of a key that are printed as themselves: `!` and `~`.
+const FIRST: u8 = 33;
+
+const LAST: u8 = 126;
 
 /// The keys of the blocks of a file that was judged so.
 #[tactic(auto, using(crate::proofs::Blocks::whole_table))]
@@ -24,7 +29,7 @@ fn block_keys(
     match verdict {
         Ok(layout) => {
             let table = block_table(heap, &JudgedFile::of(bytes), layout.blocks)?;
-            key_list::<PAST_SPACE>(heap, table.as_slice())
+            key_list::<FIRST, LAST>(heap, table.as_slice())
         }
         Err(_) => Ok(String::new(heap)),
     }

@@ -9,12 +9,12 @@ use Rattle.printed.specs.Keys.{letter_of, key_text}
 -- number, key, place and size of a block: block 1 FILL at 104, size 4
 abbrev pub head_text : ℕ → Entry → List ℕ
 head_text k e =
-    codes "block " ++ (decimal k ++ (codes " " ++ (key_text 32 e.key ++ (codes " at " ++ (decimal e.place
+    codes "block " ++ (decimal k ++ (codes " " ++ (key_text 32 126 e.key ++ (codes " at " ++ (decimal e.place
     ++ (codes ", size " ++ decimal e.size))))))
 
 -- a byte of a text as a letter
 abbrev pub letter_text : ℕ → List ℕ
-letter_text x = encode (letter_of 32 x)
+letter_text x = encode (letter_of 32 126 x)
 
 abbrev pub quoted_text : List ℕ → List ℕ
 quoted_text text = (codes "\"" ++ flat_map letter_text text) ++ codes "\""

@@ -25,5 +25,5 @@ form_of n =
 abbrev pub field_text : Form → ℕ → ℕ → Option (List ℕ)
 field_text Number n x = Some (codes "field " ++ (decimal n ++ (codes " " ++ (name_of n ++ (codes ": " ++ decimal x)))))
 field_text Letters n x =
-    Some (codes "field " ++ (decimal n ++ (codes " " ++ (name_of n ++ (codes ": " ++ (decimal x ++ (codes " \"" ++ (key_text 32 x ++ codes "\""))))))))
+    Some (codes "field " ++ (decimal n ++ (codes " " ++ (name_of n ++ (codes ": " ++ (decimal x ++ (codes " \"" ++ (key_text 32 126 x ++ codes "\""))))))))
 field_text Float n x = None

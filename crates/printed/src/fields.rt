@@ -2,7 +2,7 @@
 ghost use Rattle.std.specs.Prelude.{◌≡◌};
 ghost use Rattle.printed.specs.Fields.{name_of, form_of, field_text};
 
-use crate::keys::{FROM_SPACE, Key};
+use crate::keys::{Key, SPACE, TILDE};
 use std::fmt;
 use std::num::f32_from_bits_with_nan;
 
@@ -95,7 +95,7 @@ impl fmt::Display for FieldLine {
         match self.form {
             Form::Number => write!(f, "field {number} {name}: {pattern}"),
             Form::Letters => {
-                let letters = Key::<FROM_SPACE>(pattern);
+                let letters = Key::<SPACE, TILDE>(pattern);
                 write!(f, "field {number} {name}: {pattern} \"{letters}\"")
             }
             Form::Float => {

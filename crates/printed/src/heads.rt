@@ -2,7 +2,7 @@
 ghost use Rattle.std.specs.Prelude.{Some};
 ghost use Rattle.printed.specs.Blocks.{head_text};
 
-use crate::keys::{FROM_SPACE, Key};
+use crate::keys::{Key, SPACE, TILDE};
 use reader::Entry;
 use std::fmt;
 
@@ -15,7 +15,7 @@ impl fmt::Display for Head {
 
     fn fmt<W: fmt::Write>(&self, f: &mut fmt::Formatter<W>) -> fmt::Result {
         let Head(number, entry) = self;
-        let key = Key::<FROM_SPACE>(entry.key);
+        let key = Key::<SPACE, TILDE>(entry.key);
         write!(
             f,
             "block {number} {key} at {}, size {}",

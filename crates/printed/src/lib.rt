@@ -12,7 +12,7 @@ mod table;
 
 pub use fields::{FieldLine, Form};
 pub use heads::Head;
-pub use keys::{FROM_SPACE, Key, PAST_SPACE, key_list, letter};
+pub use keys::{Key, SPACE, TILDE, key_list, letter};
 pub use named::{Named, quoted};
 pub use overview::{Opening, SizesText};
 pub use refused::Refused;

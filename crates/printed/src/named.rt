@@ -2,7 +2,7 @@
 ghost use Rattle.std.specs.Prelude.{◌≡◌, IfOk, Some, string_bytes};
 ghost use Rattle.printed.specs.Blocks.{quoted_text, fill_text};
 
-use crate::keys::{FROM_SPACE, letter};
+use crate::keys::{SPACE, TILDE, letter};
 use records::{Fill, Fwin, Glrm, Loca, Rcvi, Supi, Time};
 use std::alloc::{AllocError, Global};
 use std::fmt;
@@ -18,7 +18,7 @@ pub fn quoted(heap: Global, text: &[u8]) -> Result<String, AllocError>
 {
     let mut quoted = String::from_str(heap, "\"")?;
     for byte in text {
-        quoted.push(letter::<FROM_SPACE>(*byte))?;
+        quoted.push(letter::<SPACE, TILDE>(*byte))?;
     }
     quoted.push('"')?;
     Ok(quoted)

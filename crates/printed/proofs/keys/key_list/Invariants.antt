@@ -5,4 +5,4 @@ use Rattle.printed.proofs.keys.key_list.Given as goal
 
 -- The keys of the blocks that the loop has passed follow the first.
 abbrev pub invariant-loop-entry : goal.invariant-loop-entry
-invariant-loop-entry g l = string_bytes l.list ≡ string_bytes l.initial.list ++ flat_map (more_key g.row.LEAST) (take l.entry-index l.rest)
+invariant-loop-entry g l = string_bytes l.list ≡ string_bytes l.initial.list ++ flat_map (more_key g.row.FIRST g.row.LAST) (take l.entry-index l.rest)
