@@ -7,7 +7,6 @@ use records::{Fill, Fwin, Glrm, Loca, Rcvi, Supi, Time};
 use std::alloc::{AllocError, Global};
 use std::fmt;
 use std::num::f64_from_bits_with_nan;
-use texts::{City, Sitd, Tool, Zone};
 
 /// A record, and the text of its block in quotes.
 #[derive(Drop)]
@@ -132,31 +131,8 @@ impl fmt::Display for Named<Fill> {
     }
 }
 
-impl fmt::Display for Named<Zone> {
-    ghost output = { λ x. Some (string_bytes x.1) };
-
-    fn fmt<W: fmt::Write>(&self, f: &mut fmt::Formatter<W>) -> fmt::Result {
-        f.write_str(self.1.as_str())
-    }
-}
-
-impl fmt::Display for Named<City> {
-    ghost output = { λ x. Some (string_bytes x.1) };
-
-    fn fmt<W: fmt::Write>(&self, f: &mut fmt::Formatter<W>) -> fmt::Result {
-        f.write_str(self.1.as_str())
-    }
-}
-
-impl fmt::Display for Named<Tool> {
-    ghost output = { λ x. Some (string_bytes x.1) };
-
-    fn fmt<W: fmt::Write>(&self, f: &mut fmt::Formatter<W>) -> fmt::Result {
-        f.write_str(self.1.as_str())
-    }
-}
-
-impl fmt::Display for Named<Sitd> {
+/// A text alone.
+impl fmt::Display for Named<()> {
     ghost output = { λ x. Some (string_bytes x.1) };
 
     fn fmt<W: fmt::Write>(&self, f: &mut fmt::Formatter<W>) -> fmt::Result {
