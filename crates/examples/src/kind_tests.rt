@@ -106,30 +106,30 @@ fn texts_at_their_limits(rt: HostRuntime) -> Result<(), Fail> {
 #[test]
 fn texts_that_cannot_be_written(rt: HostRuntime) -> Result<(), Fail> {
     let long = [65u8; 300];
-    assert_eq!(rt; refused(<Zone as Kind>::measure(Zone, &long[0..255])), None);
+    assert_eq!(rt; refused(<Zone as Kind>::measure((), &long[0..255])), None);
     assert_eq!(rt;
-        refused(<Zone as Kind>::measure(Zone, &long[0..256])),
+        refused(<Zone as Kind>::measure((), &long[0..256])),
         Some((15, 5, 0, 255))
     );
     assert_eq!(rt;
-        refused(<City as Kind>::measure(City, b"A\0B")),
+        refused(<City as Kind>::measure((), b"A\0B")),
         Some((15, 5, 0, 1))
     );
     assert_eq!(rt;
-        refused(<Tool as Kind>::measure(Tool, b"\0")),
+        refused(<Tool as Kind>::measure((), b"\0")),
         Some((15, 5, 0, 0))
     );
-    assert_eq!(rt; refused(<Sitd as Kind>::measure(Sitd, &long)), None);
+    assert_eq!(rt; refused(<Sitd as Kind>::measure((), &long)), None);
     let fill = <Fill as Kind>::read(&[1, 2, 2, 4])?.record;
     assert_eq!(rt;
         refused(<Fill as Kind>::measure(fill, b"x")),
         Some((15, 5, 0, 0))
     );
     let mut out = [9u8; 6];
-    assert_eq!(rt; <Zone as Kind>::write(Zone, b"EST5", &mut out)?, 5);
+    assert_eq!(rt; <Zone as Kind>::write((), b"EST5", &mut out)?, 5);
     assert_eq!(rt; out, *b"EST5\0\x09");
     assert_eq!(rt;
-        refused(<Zone as Kind>::write(Zone, b"EST5EDT", &mut out)),
+        refused(<Zone as Kind>::write((), b"EST5EDT", &mut out)),
         Some((22, 5, 0, 8))
     );
     Ok(())

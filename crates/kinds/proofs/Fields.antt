@@ -25,28 +25,28 @@ module _ (ps : List Part) (m : ℕ) where
   reads_long : (b : List ℕ) → field_size ps m ≤ length b → field_reads ps m b ≡ field_text (total ps) m (values ps b 0) (take (m + 1) (drop (total ps) b))
   reads_long b l = cond-false _ _ _ (le-ltb (length b) (field_size ps m) l)
 
-  reads_short : (b : List ℕ) → length b < (field_size ps m) → field_reads ps m b ≡ refused RecordShort (length b)
+  reads_short : (b : List ℕ) → length b < field_size ps m → field_reads ps m b ≡ refused RecordShort (length b)
   reads_short b l = cond-true _ _ _ (lt-ltb (length b) (field_size ps m) l)
 
   -- what an accepted field is
-  field_is : (ms f ns : List ℕ) (at len u : ℕ) → field_text (total ps) m ms f ≡ accepted ns at len u → (before_zero f < (m + 1)) × (at ≡ (total ps)) × (len ≡ before_zero f) × (u ≡ field_size ps m)
+  field_is : (ms f ns : List ℕ) (at len u : ℕ) → field_text (total ps) m ms f ≡ accepted ns at len u → (before_zero f < m + 1) × (at ≡ total ps) × (len ≡ before_zero f) × (u ≡ field_size ps m)
   field_is ms f ns at len u e =
       ⊎_elim
-      (λ (l : before_zero f < (m + 1)).
+      (λ (l : before_zero f < m + 1).
       let g : accepted ms (total ps) (before_zero f) (field_size ps m) ≡ accepted ns at len u = sym (cond-true _ _ _ (lt-ltb (before_zero f) (m + 1) l)) ∙ e in
       (l, cc, cc, cc))
-      (λ (l : (m + 1) ≤ before_zero f).
+      (λ (l : m + 1 ≤ before_zero f).
       let g : refused TextWithoutZero (total ps) ≡ accepted ns at len u = sym (cond-false _ _ _ (le-ltb (before_zero f) (m + 1) l)) ∙ e in
       let z : ◌≡◌ {A = ℕ} 0 1 = cc in absurd (omega arith))
       (cases_lt (before_zero f) (m + 1))
 
-  field_refused : (ms f : List ℕ) (r : Refusal) (p : ℕ) → field_text (total ps) m ms f ≡ refused r p → (p ≡ (total ps)) × (r ≡ TextWithoutZero)
+  field_refused : (ms f : List ℕ) (r : Refusal) (p : ℕ) → field_text (total ps) m ms f ≡ refused r p → (p ≡ total ps) × (r ≡ TextWithoutZero)
   field_refused ms f r p e =
       ⊎_elim
-      (λ (l : before_zero f < (m + 1)).
+      (λ (l : before_zero f < m + 1).
       let g : accepted ms (total ps) (before_zero f) (field_size ps m) ≡ refused r p = sym (cond-true _ _ _ (lt-ltb (before_zero f) (m + 1) l)) ∙ e in
       let z : ◌≡◌ {A = ℕ} 0 1 = cc in absurd (omega arith))
-      (λ (l : (m + 1) ≤ before_zero f).
+      (λ (l : m + 1 ≤ before_zero f).
       let g : refused TextWithoutZero (total ps) ≡ refused r p = sym (cond-false _ _ _ (le-ltb (before_zero f) (m + 1) l)) ∙ e in
       (cc, cc))
       (cases_lt (before_zero f) (m + 1))
@@ -56,7 +56,7 @@ module _ (ps : List Part) (m : ℕ) where
       → (field_size ps m ≤ length b) × (field_text (total ps) m (values ps b 0) (take (m + 1) (drop (total ps) b)) ≡ accepted ns at len u)
   accepted_is b ns at len u e =
       ⊎_elim
-      (λ (l : length b < (field_size ps m)).
+      (λ (l : length b < field_size ps m).
       let f : refused RecordShort (length b) ≡ accepted ns at len u = sym (reads_short b l) ∙ e in
       let z : ◌≡◌ {A = ℕ} 0 1 = cc in absurd (omega arith))
       (λ (l : field_size ps m ≤ length b). (l, sym (reads_long b l) ∙ e))
@@ -86,7 +86,7 @@ module _ (ps : List Part) (m : ℕ) where
   field_faults : (b : List ℕ) (r : Refusal) (p : ℕ) → field_reads ps m b ≡ refused r p → (p ≤ length b) × ((r ≡ RecordShort) ⊎ (r ≡ TextWithoutZero))
   field_faults b r p e =
       ⊎_elim
-      (λ (l : length b < (field_size ps m)).
+      (λ (l : length b < field_size ps m).
       let f : refused RecordShort (length b) ≡ refused r p = sym (reads_short b l) ∙ e in
       let is : p ≡ length b = cc in
       let q : r ≡ RecordShort = cc in
@@ -143,8 +143,8 @@ module _ (ps : List Part) (m : ℕ) where
       omega (arith, length-append (packed ps ns) (text ++ replicate (m + 1 - length text) 0), packed_long ps ns f, field_long text h)
 
   -- a field with its first zero at a place
-  field_at : (ms f : List ℕ) (t : ℕ) → before_zero f ≡ t → t < (m + 1) → field_text (total ps) m ms f ≡ accepted ms (total ps) t (field_size ps m)
-  field_at ms f t e h = subst (λ (x : ℕ). x < (m + 1) → field_text (total ps) m ms f ≡ accepted ms (total ps) x (field_size ps m)) e (λ l. cond-true _ _ _ (lt-ltb (before_zero f) (m + 1) l)) h
+  field_at : (ms f : List ℕ) (t : ℕ) → before_zero f ≡ t → t < m + 1 → field_text (total ps) m ms f ≡ accepted ms (total ps) t (field_size ps m)
+  field_at ms f t e h = subst (λ (x : ℕ). x < m + 1 → field_text (total ps) m ms f ≡ accepted ms (total ps) x (field_size ps m)) e (λ l. cond-true _ _ _ (lt-ltb (before_zero f) (m + 1) l)) h
 
   field_returns : (ns text : List ℕ) → fit ps ns ≡ true → length text ≤ m → length text ≤ before_zero text
       → Returns (field_reads ps m) ns text (field_bytes m (packed ps ns) text)
@@ -156,7 +156,7 @@ module _ (ps : List Part) (m : ℕ) where
       let v : values ps out 0 ≡ ns = values_back ps ns out 0 field f refl in
       let whole : take (m + 1) (drop (total ps) out) ≡ field = ap (take (m + 1)) behind ∙ take_all (m + 1) field (omega (arith, field_long text h)) in
       record {
-        at = (total ps);
+        at = total ps;
         read = reads_long out (omega arith)
             ∙ ap (λ (x : List ℕ). field_text (total ps) m x (take (m + 1) (drop (total ps) out))) v
             ∙ ap (field_text (total ps) m ns) whole

@@ -52,6 +52,7 @@ pub trait Kind {
 
 /// Whether a key is the kind's own, byte by byte. Its contract has the law of all kinds: what is written, with any bytes
 /// behind it, is read back as written.
+#[tactic(auto, using(crate::proofs::Laws::every_kind_returns))]
 pub fn is_kind<K: Kind>(key: [u8; 4]) -> bool
     ensures same { result ≡ bytes_eq key K.kind.key }
     ensures law { EveryKindReturns }

@@ -55,7 +55,7 @@ pub fn check_record(bytes: &[u8], size: usize) -> Result<(), Fault>
 pub fn measure_record(size: usize, text: &[u8]) -> Result<usize, Fault>
     ensures { result ≡ textless size text.now }
 {
-    if text.len() > 0 {
+    if !text.is_empty() {
         return Err(Fault::at(Refusal::TextUnfit, 0));
     }
     Ok(size)

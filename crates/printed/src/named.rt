@@ -135,6 +135,7 @@ impl fmt::Display for Named<Fill> {
     }
 }
 
+/// A text alone.
 impl fmt::Display for Named<()> {
     ghost output = { λ x. Some (string_bytes x.1) };
 
