@@ -48,7 +48,7 @@ held_or b (Some l) f e none = held_by b (Some l) e
 held_or b None f e none = ap Err none ∙ held_by b None e
 
 -- what judging answers is kept
-pub kept_of : (b : List ℕ) (r : Result Layout Fault) (x : Option Layout) → r ≡ judged b → x ≡ result_ok r → numbers_of x ≡ numbers_of (file_layout b)
+pub kept_of : (b : List ℕ) (r : Result Layout Fault) → r ≡ judged b → numbers_of (result_ok r) ≡ numbers_of (file_layout b)
 unfolding file_layout
-kept_of b (Ok l) x e f = ap numbers_of (f ∙ ap accepted e)
-kept_of b (Err g) x e f = ap numbers_of (f ∙ ap accepted e)
+kept_of b (Ok l) e = ap numbers_of (ap accepted e)
+kept_of b (Err g) e = ap numbers_of (ap accepted e)

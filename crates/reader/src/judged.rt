@@ -33,6 +33,7 @@ impl<'a> JudgedFile<'a> {
     /// Judges the bytes and keeps them.
     ///
     /// Its contract has the laws of reading: of an accepted file the readers of all levels agree.
+    #[tactic(auto, using(crate::proofs::Known::kept_of))]
     pub fn of(bytes: &'a [u8]) -> JudgedFile<'a>
         ensures bytes { result.bytes.now ≡ bytes.now }
         ensures agree { AgreedFile bytes.now }
