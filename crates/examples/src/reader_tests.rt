@@ -91,7 +91,10 @@ fn rows_of_an_early_file(rt: HostRuntime) -> Result<(), Fail> {
     assert_eq!(rt; file.row(at(5, 1, 4))?, (92, 8));
     assert_eq!(rt; file.row(at(6, 1, 7))?, (116, 4));
     assert_eq!(rt; file.row(at(6, 2, 6))?, (148, 8));
-    assert_eq!(rt; file.row_part(at(4, 2, 7))?, [156u8, 157, 158, 159].as_slice());
+    assert_eq!(rt;
+        file.row_part(at(4, 2, 7))?,
+        [156u8, 157, 158, 159].as_slice()
+    );
     assert_eq!(rt; refused(file.row(at(0, 1, 1))), Some((19, 5, 0, 0)));
     assert_eq!(rt; refused(file.row(at(3, 9, 1))), Some((37, 5, 0, 0)));
     assert_eq!(rt; refused(file.row(at(4, 0, 1))), Some((16, 5, 0, 0)));
