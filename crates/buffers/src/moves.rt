@@ -7,11 +7,14 @@ use crate::words::Word;
 use std::convert::AsSlice;
 
 /// Whether `n` bytes from `at` on lie in the buffer.
+// Buffer and place stay two parameters, as of the slices' own methods: a struct of them would be made anew for each move.
 fn has_room(buf: &[u8], at: usize, n: usize) -> bool
     ensures { result ≡ room buf.now at n }
 {
     at <= buf.len() && n <= buf.len() - at
 }
+
+// Each move answers a bool: whether it was made is a yes or no with no value beside it, as of `insert` of a set.
 
 /// Writes bytes at a place. Answers false, and writes none, where they do not all lie in the buffer.
 #[tactic(auto, using(std::proofs::lemmas::Slice::overwrites), unfolding(crate::specs::Moves::written))]

@@ -9,10 +9,9 @@ use texts::{City, Sitd, Tool, Zone};
 
 /// The bytes that reading uses, or number and place of what it refuses.
 fn told<K: Kind>(bytes: &[u8]) -> Result<usize, (u8, usize)> {
-    match K::read(bytes) {
-        Ok(reading) => Ok(reading.used),
-        Err(fault) => Err((fault.refusal.number(), fault.place)),
-    }
+    K::read(bytes)
+        .map(|reading| reading.used)
+        .map_err(|fault| (fault.refusal.number(), fault.place))
 }
 
 /// A record at its exact length, one byte short, and with bytes behind it.

@@ -6,13 +6,11 @@ pub type Told = Option<(u8, u8, usize, usize)>;
 
 /// What an outcome tells of a refusal.
 pub fn refused<T: Drop>(outcome: Result<T, Fault>) -> Told {
-    match outcome {
-        Ok(_) => None,
-        Err(fault) => Some((
-            fault.refusal.number(),
-            fault.layer.number(),
-            fault.block,
-            fault.place,
-        )),
-    }
+    let fault = outcome.err()?;
+    Some((
+        fault.refusal.number(),
+        fault.layer.number(),
+        fault.block,
+        fault.place,
+    ))
 }

@@ -7,6 +7,7 @@ use buffers::{write_bytes, write_word};
 use faults::{Fault, Refusal};
 
 /// How many bytes stand before the first zero, or all of them where there is none.
+// A count and no Option: it is the definition's own, and one comparison with the length tells whether there is a zero.
 pub fn first_zero(bytes: &[u8]) -> usize
     ensures { result ≡ before_zero bytes.now }
 {

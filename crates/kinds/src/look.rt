@@ -41,11 +41,10 @@ pub fn look_at<K: Kind>(bytes: &[u8], at: usize, number: usize) -> Result<Readin
     }
     let place = at + 8;
     let data = &bytes[place..place + size];
-    match K::read(data) {
-        Ok(reading) => Ok(Reading {
+    K::read(data)
+        .map(|reading| Reading {
             text: place + reading.text,
             ..reading
-        }),
-        Err(fault) => Err(Fault::in_block(fault.refusal, number, place + fault.place)),
-    }
+        })
+        .map_err(|fault| Fault::in_block(fault.refusal, number, place + fault.place))
 }

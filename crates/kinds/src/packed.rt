@@ -20,6 +20,8 @@ pub trait Packed: Copy {
 
     ghost numbers: { Self → List ℕ };
 
+    // Each record lists its fields in `unpack` and `pack` itself: the gate takes no impl that a macro of this repository writes.
+
     /// The numbers at the start of the bytes; a byte behind the end counts as 0.
     fn unpack(bytes: &[u8]) -> Self
         ensures { numbers result ≡ values parts bytes.now 0 };

@@ -51,6 +51,7 @@ const NAMES: [&str; 21] = [
 ];
 
 /// CODAR's name of a field; nothing is printed for a field that there is not.
+// An empty name and no Option: a field's line is made for any number, and the definition of its text has no name there.
 fn field_name(number: usize) -> &'static str
     ensures { result.now ≡ name_of number }
 {

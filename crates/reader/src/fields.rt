@@ -11,6 +11,7 @@ use faults::{Fault, Refusal};
 use format::Layout;
 
 /// A field of the header, by its number, which is one of 1 to 20.
+// An enum of twenty names would be no plainer: levels and places go by ranges of the number, and a question asks by it.
 #[derive(Clone, Copy, PartialEq, Eq, Debug)]
 struct Field {
     number: usize,

@@ -7,6 +7,7 @@ ghost use Rattle.reader.specs.Answers.{width_before, width_of, patterns, filled,
 ghost use Rattle.reader.specs.Levels.{row_conditions};
 
 use crate::judged::{JudgedFile, check_level};
+use buffers::Word;
 use faults::{Fault, Refusal};
 use format::{Layout, bin_width};
 
@@ -97,14 +98,6 @@ fn check_row(layout: Layout, at: RowAt) -> Result<Row, Fault>
     Ok(Row { layout, cell, row })
 }
 
-/// The big-endian number in four bytes.
-fn read_number(word: &[u8]) -> u32
-    requires { length word.now ≡ 4 }
-    ensures { result ≡ word32 word.now 0 }
-{
-    u32::from_be_bytes([word[0], word[1], word[2], word[3]])
-}
-
 /// Copies the numbers in the bytes to the start of the list, four bytes to a number.
 fn copy_numbers(bytes: &[u8], list: &mut [u32])
     requires { length bytes.now / 4 ≤ length list.old }
@@ -112,7 +105,7 @@ fn copy_numbers(bytes: &[u8], list: &mut [u32])
 {
     // By number, and not by `list.iter_mut().zip(..)`: of a list that was lent so, a proof knows no element.
     for (i, word) in bytes.chunks_exact(4).enumerate() {
-        list[i] = read_number(word);
+        list[i] = u32::at(word, 0);
     }
 }
 

@@ -25,10 +25,10 @@ loop-i-preserved c =
     let k = length c.loop-i.yielded in
     let turn = numbered_turn new (road made) (from_zero made) c.loop-i.yielded c.loop-i.i-iterator c.loop-i.yielded_by c.next.result c.next.new.self c.in-Some.i c.in-Some.word c.in-Some.is c.next.ensures.steps in
     let count = pattern_count c.args.bytes.now in
-    let here = subst (λ x. x ≡ get_or new k x) (sym c.read_number.ensures) turn.2 in
-    let more = fill_more new c.args.list.now c.loop-i.list k c.read_number.result turn.1 (omega arith) c.loop-i.invariant here in
+    let here = subst (λ x. x ≡ get_or new k x) (sym c.at.ensures) turn.2 in
+    let more = fill_more new c.args.list.now c.loop-i.list k c.at.result turn.1 (omega arith) c.loop-i.invariant here in
     let next = length_push c.loop-i.yielded (c.in-Some.i, c.in-Some.word) in
-    ap (λ i. set c.loop-i.list i c.read_number.result) turn.0 ∙ (rw next more)
+    ap (λ i. set c.loop-i.list i c.at.result) turn.0 ∙ (rw next more)
 
 pub returns : goal.returns
 returns c =
