@@ -4,7 +4,7 @@ use Rattle.std.proofs.lemmas.List.{length-append, length-replicate, take_all, ta
 use Rattle.std.proofs.lemmas.Bool.{leb-true, leb-false, cases_lt, cases_Bool, lt-ltb, le-ltb, cond-true, cond-false}
 use Rattle.buffers.specs.Moves.{written}
 use Rattle.faults.specs.declared.refusal.Refusal.{Refusal}
-use Rattle.faults.specs.declared.refusal.Refusal.TheVariants.{RecordShort, TextWithoutZero, ListOrTableTooShort}
+use Rattle.faults.specs.declared.refusal.Refusal.TheVariants.{RecordShort, TextWithoutZero, TextUnfit, ListOrTableTooShort}
 use Rattle.faults.specs.Faults.{fault}
 use Rattle.kinds.specs.Ended.{before_zero}
 use Rattle.kinds.specs.Field.{field_size, field_text, field_reads, field_bytes, field_closed, field_writes, field_kind}
@@ -200,12 +200,36 @@ module _ (ps : List Part) (m : ℕ) where
 
   -- what is measured has numbers that fit and a text that can be written, and is as long as the whole
   pub measured_parts : (ns text : List ℕ) (n : ℕ) → Ok n ≡ measured (field_writes ps m ns text)
-      → (fit ps ns ≡ true) × (length text ≤ m) × (n ≡ field_size ps m)
+      → (fit ps ns ≡ true) × (length text ≤ m) × (n ≡ field_size ps m) × (length text ≤ before_zero text)
   measured_parts ns text n e =
       let w = measured_is (field_writes ps m ns text) n e in
       let p = writes_is ns text w.0 w.1 in
       let q = text_is (packed ps ns) text w.0 p.1 in
-      (p.0, q.0, w.2 ∙ ap length (sym q.2) ∙ bytes_long ns text p.0 q.0)
+      (p.0, q.0, w.2 ∙ ap length (sym q.2) ∙ bytes_long ns text p.0 q.0, q.1)
+
+  -- numbers that fit are written with a text that can be
+  pub writes_bytes : (ns text : List ℕ) → fit ps ns ≡ true → length text ≤ m → length text ≤ before_zero text
+      → field_writes ps m ns text ≡ bytes (field_bytes m (packed ps ns) text)
+  writes_bytes ns text f h l =
+      cond-true _ _ _ f ∙ cond-false _ _ _ (le-ltb m (length text) h) ∙ cond-false _ _ _ (le-ltb (before_zero text) (length text) l)
+
+  -- what measuring answers, numbers fitting: 15 at m for a longer text, 15 at its first zero, or the size of the whole
+  pub field_measured : (ns text : List ℕ) → fit ps ns ≡ true
+      → measured (field_writes ps m ns text) ≡ cond (ltb m (length text)) (Err (fault TextUnfit m)) (cond (ltb (before_zero text) (length text)) (Err (fault TextUnfit (before_zero text))) (Ok (field_size ps m)))
+  field_measured ns text f =
+      ⊎_elim
+      (λ (h : m < length text).
+      ap measured (cond-true _ _ _ f ∙ cond-true _ _ _ (lt-ltb m (length text) h)) ∙ sym (cond-true _ _ _ (lt-ltb m (length text) h)))
+      (λ (h : length text ≤ m).
+      ⊎_elim
+      (λ (l : before_zero text < length text).
+      ap measured (cond-true _ _ _ f ∙ cond-false _ _ _ (le-ltb m (length text) h) ∙ cond-true _ _ _ (lt-ltb (before_zero text) (length text) l))
+      ∙ sym (cond-false _ _ _ (le-ltb m (length text) h) ∙ cond-true _ _ _ (lt-ltb (before_zero text) (length text) l)))
+      (λ (l : length text ≤ before_zero text).
+      ap measured (writes_bytes ns text f h l) ∙ ap (λ (x : ℕ). Ok x) (bytes_long ns text f h)
+      ∙ sym (cond-false _ _ _ (le-ltb m (length text) h) ∙ cond-false _ _ _ (le-ltb (before_zero text) (length text) l)))
+      (cases_lt (before_zero text) (length text)))
+      (cases_lt m (length text))
 
   -- numbers, text and zeros were written, one behind the other, if there was room for the whole
   module _ (ns text before after : List ℕ) (n : ℕ) (e : Ok n ≡ measured (field_writes ps m ns text)) (left : after ≡ cond (leb (field_size ps m) (length before)) (written (written (filled ps ns before 0) (total ps) text) (total ps + length text) (replicate (m + 1 - length text) 0)) before) where

@@ -9,6 +9,7 @@ use crate::text::{Label, Text};
 pub type City = Text<CityLabel>;
 
 /// The label of a CITY block.
+#[derive(Clone, Copy, PartialEq, Debug)]
 pub struct CityLabel;
 
 impl Label for CityLabel {

@@ -9,6 +9,7 @@ use crate::text::{Label, Text};
 pub type Sitd = Text<SitdLabel>;
 
 /// The label of a SITD block.
+#[derive(Clone, Copy, PartialEq, Debug)]
 pub struct SitdLabel;
 
 impl Label for SitdLabel {

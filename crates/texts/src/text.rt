@@ -29,6 +29,7 @@ pub trait Label {
 }
 
 /// The kind of text that has this label.
+#[derive_where(Clone, Copy, PartialEq, Debug)]
 pub struct Text<L> {
     label: PhantomData<L>,
 }

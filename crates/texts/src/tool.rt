@@ -9,6 +9,7 @@ use crate::text::{Label, Text};
 pub type Tool = Text<ToolLabel>;
 
 /// The label of a TOOL block.
+#[derive(Clone, Copy, PartialEq, Debug)]
 pub struct ToolLabel;
 
 impl Label for ToolLabel {

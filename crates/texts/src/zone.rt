@@ -9,6 +9,7 @@ use crate::text::{Label, Text};
 pub type Zone = Text<ZoneLabel>;
 
 /// The label of a ZONE block.
+#[derive(Clone, Copy, PartialEq, Debug)]
 pub struct ZoneLabel;
 
 impl Label for ZoneLabel {

@@ -3,7 +3,7 @@ use Rattle.std.proofs.lemmas.Result.{err_from_is_err_and}
 use Rattle.format.specs.declared.header.Extent.{Extent}
 use Rattle.format.specs.declared.header.TheConstants.{EXTENTS}
 use Rattle.format.specs.Judging.{agrees}
-use Rattle.format.proofs.Turns.{turn_fails, turn_passes}
+use Rattle.format.proofs.Turns.{turn_fails}
 use Rattle.format.proofs.header.Header.check_agreeing.Goals as goal
 
 pub returns-in_err-check_agrees : goal.returns-in_err-check_agrees
@@ -13,9 +13,3 @@ returns-in_err-check_agrees c =
     rw (p.1, p.2)
     (sym (turn_fails (λ (e : Extent). agrees header.bytes.now header.version e.number e.place) (drop 1 EXTENTS) _ c.loop-extent.extent-index _
     c.loop-extent-test.true c.loop-extent.invariant c.in_err-check_agrees.field-0.0 c.in_err-check_agrees.ensures))
-
-pub loop-extent-preserved : goal.loop-extent-preserved
-loop-extent-preserved c =
-    let header = c.args.self.now in
-    turn_passes (λ (e : Extent). agrees header.bytes.now header.version e.number e.place) (drop 1 EXTENTS) _ c.loop-extent.extent-index _
-    c.loop-extent-test.true c.loop-extent.invariant c.in_ok-check_agrees.ensures
