@@ -30,6 +30,7 @@ pub trait Word: Copy {
 }
 
 /// The byte `by` places behind `at`, or 0 behind the end.
+// Each width lists its bytes itself: tried was `array::from_fn` at a const parameter, from which the proof got no byte.
 fn byte_after(bytes: &[u8], at: usize, by: usize) -> u8
     ensures { result ≡ slice_index bytes.now (at + by) }
 {

@@ -10,6 +10,7 @@ use std::test::Fail;
 const EXTENTS: [(usize, u32); 5] = [(6, 10), (12, 16), (20, 24), (68, 72), (96, 100)];
 
 /// Puts the bytes of a number at a place, where they fit.
+// By its own means, and not by the moves of `buffers`, which the tests of this file try.
 fn put<const N: usize>(bytes: &mut [u8], at: usize, number: [u8; N]) {
     if bytes.len() >= N && at <= bytes.len() - N {
         bytes[at..at + N].copy_from_slice(&number);

@@ -18,6 +18,7 @@ fn copy_rows(judged: &JudgedFile, list: &mut [u32]) -> Result<usize, Fault>
 {
     let layout = judged.layout()?;
     let sizes = layout.sizes;
+    // In the width of a place, since the file is accepted; `Sizes` has the product in 128 bits, where any header may ask for it.
     let count = sizes.ranges as usize * sizes.bins as usize * bin_width(sizes.quality) / 4;
     if count > list.len() {
         return Err(Fault::at(Refusal::ListOrTableTooShort, count));

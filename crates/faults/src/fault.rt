@@ -6,6 +6,7 @@ use crate::refusal::{Layer, Refusal};
 use std::fmt;
 
 /// Why a call refused, and where.
+// Four parts and a 0 for no block, as the definitions have them: who is refused is told four numbers, whatever they speak of.
 #[derive(Clone, Copy, PartialEq, Eq, Debug)]
 pub struct Fault {
     /// The refusal, which has the number.
@@ -43,17 +44,18 @@ impl fmt::Display for Fault {
     ghost output = { λ x. Some (fault_text x) };
 
     fn fmt<W: fmt::Write>(&self, f: &mut fmt::Formatter<W>) -> fmt::Result {
-        let number = self.refusal.number();
-        let refusal = self.refusal;
-        let layer = self.layer;
-        let block = self.block;
-        let place = self.place;
-        write!(f, "refused {number}: {refusal} ({layer})")?;
-        if block > 0 {
-            write!(f, ", block {block}")?;
+        write!(
+            f,
+            "refused {}: {} ({})",
+            self.refusal.number(),
+            self.refusal,
+            self.layer
+        )?;
+        if self.block > 0 {
+            write!(f, ", block {}", self.block)?;
         }
-        if layer != Layer::Call {
-            write!(f, ", place {place}")?;
+        if self.layer != Layer::Call {
+            write!(f, ", place {}", self.place)?;
         }
         Ok(())
     }

@@ -37,7 +37,7 @@ fn check_version(bytes: &[u8]) -> Result<(), Fault>
     ensures { result ≡ versioned bytes.now }
 {
     let version = i16::at(bytes, 0);
-    if version >= 1 && version <= 32 {
+    if (1..=32).contains(&version) {
         Ok(())
     } else {
         Err(Fault::at(Refusal::Version, 0))

@@ -27,9 +27,8 @@ impl fmt::Display for Counted {
     ghost output = { λ x. Some (count_text x.0 x.1.now) };
 
     fn fmt<W: fmt::Write>(&self, f: &mut fmt::Formatter<W>) -> fmt::Result {
-        let count = self.0;
-        let thing = self.1;
-        let plural = if count == 1 { "" } else { "s" };
+        let Counted(count, thing) = self;
+        let plural = if *count == 1 { "" } else { "s" };
         write!(f, "{count} {thing}{plural}")
     }
 }
@@ -38,15 +37,15 @@ impl fmt::Display for Layout {
     ghost output = { λ x. Some (layout_text x) };
 
     fn fmt<W: fmt::Write>(&self, f: &mut fmt::Formatter<W>) -> fmt::Result {
-        let version = self.version;
-        let cells = Counted(self.sizes.ranges as usize, "range cell");
-        let bins = Counted(self.sizes.bins as usize, "Doppler bin");
-        let quality = self.sizes.quality_word();
-        let start = self.start;
-        let blocks = Counted(self.blocks, "block");
         write!(
             f,
-            "version {version}, {cells} of {bins}, {quality}, data at {start}, {blocks}"
+            "version {}, {} of {}, {}, data at {}, {}",
+            self.version,
+            Counted(self.sizes.ranges as usize, "range cell"),
+            Counted(self.sizes.bins as usize, "Doppler bin"),
+            self.sizes.quality_word(),
+            self.start,
+            Counted(self.blocks, "block")
         )
     }
 }

@@ -73,10 +73,10 @@ impl<'a> Header<'a> {
         ensures same { IfOk result (λ s. s ≡ sizes_of self.now.bytes.now self.now.version) }
     {
         let sizes = self.sizes();
-        if self.version >= 4 && (sizes.bins < 1 || sizes.bins > 32768) {
+        if self.version >= 4 && !(1..=32768).contains(&sizes.bins) {
             return Err(Fault::at(Refusal::Bins, 52));
         }
-        if self.version >= 4 && (sizes.ranges < 1 || sizes.ranges > 8192) {
+        if self.version >= 4 && !(1..=8192).contains(&sizes.ranges) {
             return Err(Fault::at(Refusal::Cells, 56));
         }
         if self.version >= 5 && sizes.channels != 3 {

@@ -20,7 +20,8 @@ pub trait Packed: Copy {
 
     ghost numbers: { Self → List ℕ };
 
-    // Each record lists its fields in `unpack` and `pack` itself: the gate takes no impl that a macro of this repository writes.
+    // Each record lists its fields in `unpack` and `pack` itself: the gate takes no impl that a macro of this repository writes. It says
+    // its size in both `size` and `pack`: by `self.size()`, tried there, the longest record's proof stops at a limit of the search.
 
     /// The numbers at the start of the bytes; a byte behind the end counts as 0.
     fn unpack(bytes: &[u8]) -> Self

@@ -1,19 +1,28 @@
 //! The blocks of a file, as they are printed.
+use faults::Fault;
 use format::Layout;
-use kinds::Kind;
+use kinds::{Kind, Reading};
 use printed::{Head, Named, Refused, block_table, quoted};
 use reader::JudgedFile;
 use records::{Fill, Fwin, Glrm, Loca, Rcvi, Supi, Time};
 use std::{fmt, io};
 use texts::{City, Sitd, Tool, Zone};
 
+/// What a kind reads in a block, and its text.
+fn read_block<'a, K: Kind>(
+    file: &JudgedFile<'a>,
+    number: usize,
+) -> Result<(Reading<K::Record>, &'a [u8]), Fault> {
+    Ok((file.look::<K>(number)?, file.text_part::<K>(number)?))
+}
+
 /// Prints the line of a block that is read as a kind.
 fn show_kind<K: Kind>(rt: &HostRuntime, file: &JudgedFile, head: Head) -> io::Result<()>
 where
     Named<K::Record>: fmt::Display,
 {
-    match (file.look::<K>(head.0), file.text_part::<K>(head.0)) {
-        (Ok(reading), Ok(text)) => {
+    match read_block::<K>(file, head.0) {
+        Ok((reading, text)) => {
             let named = Named(reading.record, quoted(rt.alloc(), text)?);
             let behind = head.1.size.saturating_sub(reading.used);
             if behind > 0 {
@@ -22,7 +31,7 @@ where
                 println!(rt; "{head}: {named}")
             }
         }
-        (Err(fault), _) | (_, Err(fault)) => {
+        Err(fault) => {
             let refused = Refused(fault);
             println!(rt; "{head}: {refused}")
         }

@@ -7,6 +7,7 @@ ghost use Rattle.kutsvame.specs.Words.{Writes};
 use crate::help::HELP;
 use crate::words::number_named;
 use faults::Fault;
+use format::{Layout, judge};
 use printed::Refused;
 use std::alloc::AllocError;
 use std::process::ExitCode;
@@ -45,6 +46,7 @@ pub enum Failure<'a> {
     Io(io::Error),
 }
 
+// All `From` are written here: a derived one makes no case of two errors, and of `AllocError` and `io::Error` comes one.
 impl<'a> From<Unread<'a>> for Failure<'a> {
     fn from(unread: Unread<'a>) -> Self {
         Failure::Unread(unread)
@@ -82,6 +84,16 @@ impl Failure<'_> {
         }
         Ok(ExitCode::FAILURE)
     }
+}
+
+/// The bytes of a file that judging accepts, and its layout.
+pub fn read_accepted<'a>(
+    rt: &HostRuntime,
+    name: &'a str,
+) -> Result<(Vec<u8>, Layout), Failure<'a>> {
+    let bytes = read_file(rt, name)?;
+    let layout = judge(bytes.as_slice()).map_err(|fault| Failure::Refused(name, fault))?;
+    Ok((bytes, layout))
 }
 
 /// The number below 2^64 that a word writes in decimal digits.

@@ -50,6 +50,8 @@ fn verdict_line(
     }
 }
 
+// Two functions answer a bool: a file that is refused stops nothing, and has its line; the walk over all files goes on.
+
 /// Judges the bytes of a file and prints the line for it; whether the file is accepted.
 pub fn judge_bytes(rt: &HostRuntime, name: &str, bytes: &[u8]) -> io::Result<bool> {
     let heap = rt.alloc();

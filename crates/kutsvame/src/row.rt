@@ -1,7 +1,6 @@
 //! The verb row: the numbers of a row.
-use crate::failure::{Failure, number, read_file};
+use crate::failure::{Failure, number, read_accepted};
 use crate::words::LEVEL;
-use format::judge;
 use printed::{RowError, row_patterns};
 use reader::{JudgedFile, RowAt};
 use std::io;
@@ -18,13 +17,14 @@ fn print_numbers(rt: &HostRuntime, patterns: &[u32]) -> io::Result<()> {
 
 /// Prints the row that is asked for.
 fn row_of_file<'a>(rt: &HostRuntime, name: &'a str, at: RowAt) -> Result<(), Failure<'a>> {
-    let bytes = read_file(rt, name)?;
-    judge(bytes.as_slice()).map_err(|fault| Failure::Refused(name, fault))?;
-    match row_patterns(rt.alloc(), &JudgedFile::of(bytes.as_slice()), at) {
-        Ok(patterns) => Ok(print_numbers(rt, patterns.as_slice())?),
-        Err(RowError::Refused(fault)) => Err(Failure::Refused(name, fault)),
-        Err(RowError::OutOfMemory(error)) => Err(Failure::from(error)),
-    }
+    let (bytes, _) = read_accepted(rt, name)?;
+    let file = JudgedFile::of(bytes.as_slice());
+    let patterns = row_patterns(rt.alloc(), &file, at).map_err(|error| match error {
+        RowError::Refused(fault) => Failure::Refused(name, fault),
+        RowError::OutOfMemory(error) => Failure::from(error),
+    })?;
+    print_numbers(rt, patterns.as_slice())?;
+    Ok(())
 }
 
 /// Does what the words FILE CELL ROW [LEVEL] ask.

@@ -1,8 +1,8 @@
 //! The verb show: the sizes, fields and blocks of a file, as a reader of a level sees them.
 use crate::blocks_shown::show_blocks;
-use crate::failure::{Failure, number, read_file};
+use crate::failure::{Failure, number, read_accepted};
 use crate::words::LEVEL;
-use format::{Layout, judge};
+use format::Layout;
 use printed::{FieldLine, Opening, SizesText};
 use reader::{JudgedFile, RowAt};
 use std::io;
@@ -40,9 +40,10 @@ fn show_accepted<'a>(
         cell: 1,
         row: 1,
     };
-    match file.row(first) {
-        Ok(_) => rt.println(SizesText(layout.sizes))?,
-        Err(_) => rt.println("layout unknown at this level")?,
+    if file.row(first).is_ok() {
+        rt.println(SizesText(layout.sizes))?;
+    } else {
+        rt.println("layout unknown at this level")?;
     }
     show_fields(rt, &file, level)?;
     show_blocks(rt, &file, layout, level)?;
@@ -51,8 +52,7 @@ fn show_accepted<'a>(
 
 /// Prints what a reader of that level sees in a file.
 fn show_file<'a>(rt: &HostRuntime, name: &'a str, level: usize) -> Result<(), Failure<'a>> {
-    let bytes = read_file(rt, name)?;
-    let layout = judge(bytes.as_slice()).map_err(|fault| Failure::Refused(name, fault))?;
+    let (bytes, layout) = read_accepted(rt, name)?;
     show_accepted(rt, name, bytes.as_slice(), layout, level)
 }
 

@@ -16,6 +16,8 @@ pub enum Verb {
 }
 
 impl Verb {
+    // An Option and no `FromStr`: of a word that names no verb there is no more to say than that.
+
     /// The verb that a word names.
     pub fn named(word: &str) -> Option<Verb>
         ensures { Names word.now result }

@@ -18,7 +18,7 @@ pub enum Form {
 }
 
 /// The line of a field: its number, CODAR's name, and its pattern.
-#[derive(Drop)]
+#[derive(Clone, Copy, PartialEq, Eq, Debug)]
 pub struct FieldLine {
     number: usize,
     form: Form,
@@ -51,7 +51,8 @@ const NAMES: [&str; 21] = [
 ];
 
 /// CODAR's name of a field; nothing is printed for a field that there is not.
-// An empty name and no Option: a field's line is made for any number, and the definition of its text has no name there.
+// An empty name and no Option: a line is made for any number, and its definition has no name there. (`get(number).copied()` was
+// tried for the index: its proof stops at the step limit.)
 fn field_name(number: usize) -> &'static str
     ensures { result.now ≡ name_of number }
 {
@@ -90,10 +91,13 @@ impl fmt::Display for FieldLine {
     ghost output = { λ x. field_text x.form x.number x.pattern };
 
     fn fmt<W: fmt::Write>(&self, f: &mut fmt::Formatter<W>) -> fmt::Result {
-        let number = self.number;
-        let pattern = self.pattern;
+        let FieldLine {
+            number,
+            form,
+            pattern,
+        } = *self;
         let name = field_name(number);
-        match self.form {
+        match form {
             Form::Number => write!(f, "field {number} {name}: {pattern}"),
             Form::Letters => {
                 let letters = Key::<SPACE, TILDE>(pattern);

@@ -20,7 +20,7 @@ pub struct Key<const FIRST: u8, const LAST: u8>(pub u32);
 pub fn letter<const FIRST: u8, const LAST: u8>(byte: u8) -> char
     ensures { result ≡ letter_of FIRST LAST byte }
 {
-    if byte >= FIRST && byte <= LAST {
+    if (FIRST..=LAST).contains(&byte) {
         byte as char
     } else {
         '?'

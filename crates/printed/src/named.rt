@@ -9,6 +9,7 @@ use std::fmt;
 use std::num::f64_from_bits_with_nan;
 
 /// A record, and the text of its block in quotes.
+// Floats are patterns in the records, and become floats where they are printed: a type for patterns would wrap each to save a call.
 #[derive(Drop)]
 pub struct Named<R: Drop>(pub R, pub String);
 

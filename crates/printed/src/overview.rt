@@ -36,14 +36,11 @@ impl fmt::Display for SizesText {
     ghost output = { λ x. Some (sizes_text x.0) };
 
     fn fmt<W: fmt::Write>(&self, f: &mut fmt::Formatter<W>) -> fmt::Result {
-        let ranges = self.0.ranges;
-        let bins = self.0.bins;
-        let first = self.0.first;
-        let channels = self.0.channels;
         let quality = self.0.quality_word();
         write!(
             f,
-            "range cells {ranges}, Doppler bins {bins}, first range cell {first}, channels {channels}, {quality}"
+            "range cells {}, Doppler bins {}, first range cell {}, channels {}, {quality}",
+            self.0.ranges, self.0.bins, self.0.first, self.0.channels
         )
     }
 }

@@ -16,6 +16,7 @@ pub enum RowError {
     OutOfMemory(AllocError),
 }
 
+// Both `From` are written here, since a derived one says in no contract which error it makes.
 impl From<Fault> for RowError {
     ghost from_gives = { λ fault e. e ≡ Refused fault };
 

@@ -16,6 +16,7 @@ pub fn block_table(heap: Global, file: &JudgedFile, blocks: usize) -> Result<Vec
         size: 0,
     };
     let mut table = vec![in heap; none; blocks]?;
+    // What it answers is let go: its contract says what the table holds, refused or not.
     let _ = file.table(table.as_mut_slice());
     Ok(table)
 }

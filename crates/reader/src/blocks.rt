@@ -74,6 +74,8 @@ impl<'a> Heads<'a> {
 }
 
 impl<'a> JudgedFile<'a> {
+    // Layout and file are handed on side by side: a type for an accepted file would hold what a judged file holds, for two methods.
+
     /// The heads of all blocks.
     fn heads(&self, layout: Layout) -> Heads<'a>
         requires { Placed self.now.bytes.now layout }

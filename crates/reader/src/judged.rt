@@ -18,11 +18,11 @@ pub struct JudgedFile<'a> {
 }
 
 /// Refuses 19 for a level that is none of 1 to 6.
-// A type for levels would be no plainer: no caller needs more of a level than its order among numbers.
+// A type for levels would be no plainer: no contract rests on a level that was asked for being one of 1 to 6.
 pub(crate) fn check_level(level: usize) -> Result<(), Fault>
     ensures { result ≡ level_known level }
 {
-    if level >= 1 && level <= 6 {
+    if (1..=6).contains(&level) {
         Ok(())
     } else {
         Err(Fault::at(Refusal::Level, 0))

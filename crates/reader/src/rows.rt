@@ -92,7 +92,9 @@ fn check_row(layout: Layout, at: RowAt) -> Result<Row, Fault>
     }
     let RowAt { cell, row, .. } = at;
     let sizes = layout.sizes;
-    if cell < 1 || cell > sizes.ranges as usize || row < 1 || row > row_count(sizes.quality) {
+    let cells = 1..=sizes.ranges as usize;
+    let rows = 1..=row_count(sizes.quality);
+    if !cells.contains(&cell) || !rows.contains(&row) {
         return Err(Fault::at(Refusal::NoSuchCellOrRow, 0));
     }
     Ok(Row { layout, cell, row })
@@ -110,6 +112,8 @@ fn copy_numbers(bytes: &[u8], list: &mut [u32])
 }
 
 impl<'a> JudgedFile<'a> {
+    // A pair of a place and a length, as the definition's answer is, and as that of `look` has it of a text.
+
     /// Place and length of a row in the file; refuses 31, 19, 37 if the level does not know the file's layout, and 16 for no
     /// such cell or row.
     pub fn row(&self, at: RowAt) -> Result<(usize, usize), Fault>

@@ -8,6 +8,7 @@ use buffers::{Word, write_word};
 use kinds::Packed;
 
 /// The numbers of a FILL block.
+// Some are numbers that name a choice, and no enums: a file may hold any number there, and what was read is written back.
 #[derive(Clone, Copy, PartialEq, Debug)]
 pub struct Fill {
     /// The range method: 0 none, 1 linear, 2 padding.

@@ -8,6 +8,7 @@ use buffers::{Word, write_word};
 use kinds::Packed;
 
 /// The windows of a FWIN block; parameters are the bit patterns of 64-bit floats.
+// Some are numbers that name a choice, and no enums: a file may hold any number there, and what was read is written back.
 #[derive(Clone, Copy, PartialEq, Debug)]
 pub struct Fwin {
     /// The range window: 0 none, 1 Blackman, 2 Hamming, 3 Tukey.

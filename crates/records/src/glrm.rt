@@ -8,6 +8,7 @@ use buffers::{Word, write_word};
 use kinds::Packed;
 
 /// The numbers of a GLRM block; thresholds are the bit patterns of 64-bit floats.
+// Some are numbers that name a choice, and no enums: a file may hold any number there, and what was read is written back.
 #[derive(Clone, Copy, PartialEq, Debug)]
 pub struct Glrm {
     /// The method: 0 off, 1 point, 2 range, 3 range and point, 4 DC only.

@@ -11,6 +11,7 @@ use faults::{Fault, Refusal};
 use kinds::{Kind, Reading, check_record, first_zero, measure_text};
 
 /// The numbers of an RCVI block; its text is the firmware.
+// Some are numbers that name a choice, and no enums: a file may hold any number there, and what was read is written back.
 #[derive(Clone, Copy, PartialEq, Debug)]
 pub struct Rcvi {
     /// The receiver model: 0 unknown, 1 Awg3/Rcvr2 chassis AC, 2 the same DC, 3 AllInOne, 4 Awg4 chassis AC, 5 the same DC.

@@ -8,6 +8,7 @@ use buffers::{Word, write_word};
 use kinds::Packed;
 
 /// The time of a TIME block; seconds and hours are the bit patterns of 64-bit floats.
+// Some are numbers that name a choice, and no enums: a file may hold any number there, and what was read is written back.
 #[derive(Clone, Copy, PartialEq, Debug)]
 pub struct Time {
     /// What the time marks: 0 the start, 1 the centre, 2 the end.
