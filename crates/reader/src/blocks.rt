@@ -14,6 +14,7 @@ use format::Layout;
 use kinds::{Kind, Reading, look_at};
 
 /// A block, by its head.
+// Its key is a number, as the definition answers it, and no four bytes as that of a kind.
 #[derive(Clone, Copy, PartialEq, Eq, Debug)]
 pub struct Entry {
     /// The key, as the big-endian number of its four bytes.

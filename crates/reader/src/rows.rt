@@ -131,6 +131,7 @@ impl<'a> JudgedFile<'a> {
         ensures answer { result ≡ numbers_answer self.now.bytes.now at.level at.cell at.row (length list.old) }
         ensures list { list.new ≡ numbers_list self.now.bytes.now at.level at.cell at.row list.old }
     {
+        // The part is cut here: by `row_part`, which was tried, four goals on what it hands out stayed open.
         let (place, length) = self.row(at)?;
         let count = length / 4;
         if count > list.len() {

@@ -76,6 +76,7 @@ impl Kind for Rcvi {
     }
 
     fn write(value: Rcvi, text: &[u8], out: &mut [u8]) -> Result<usize, Fault> {
+        // The steps of a packed record, with a text handed on: one function for both would take the writing as a closure.
         let size = Self::measure(value, text)?;
         if !put(value, text, out) {
             return Err(Fault::at(Refusal::ListOrTableTooShort, size));
