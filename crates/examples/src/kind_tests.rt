@@ -8,6 +8,7 @@ use std::test::Fail;
 use texts::{City, Sitd, Tool, Zone};
 
 /// The bytes that reading uses, or number and place of what it refuses.
+// Two numbers and no fault, as in `Told`.
 fn told<K: Kind>(bytes: &[u8]) -> Result<usize, (u8, usize)> {
     K::read(bytes)
         .map(|reading| reading.used)

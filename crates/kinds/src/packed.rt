@@ -32,6 +32,8 @@ pub trait Packed: Copy {
         ensures exact { result ≡ total parts }
         ensures fits { fit parts (numbers self) ≡ true };
 
+    // A bool, as the moves of a buffer answer: written or not, with no value beside it.
+
     /// Writes the numbers at the start of `out`; false, and nothing written, where there is no room for them.
     fn pack(self, out: &mut [u8]) -> bool
         ensures answer { result ≡ nat_le (total parts) (length out.old) }

@@ -22,6 +22,8 @@ pub struct Rcvi {
     pub gain: u64,
 }
 
+// A bool, as the moves of a buffer answer.
+
 /// Writes numbers, text and zeros at the start of `out`; false, and nothing written, where there is no room for them.
 fn put(value: Rcvi, text: &[u8], out: &mut [u8]) -> bool
     requires { length text.now ≤ 31 }
