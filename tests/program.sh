@@ -45,6 +45,21 @@ The built-in example file M has 160 bytes. Judged whole, and with one byte chang
 M: accepted: version 6, 1 range cell of 1 Doppler bin, no quality, data at 124, 2 blocks: FILL, XTRA
 M with extent 2 = 107 in place of 108: refused 4: extents disagree (header), place 12
 M with section size 19 in place of 20: refused 9: block head cut (section), block 2, place 116
+M is loaded into a working file, its field 4 is set to 60, and row 1 of cell 1 is stored:
+load: accepted
+set: accepted
+store: accepted
+A damaged copy is loaded over it, field 11 is set, and row 7 of cell 1 is stored:
+load: refused 4: extents disagree (header), block 0, place 12
+set: refused 21: steering field (call), block 0, place 0
+store: refused 16: no such cell or row (call), block 0, place 0
+What readers of all levels find then:
+level 1: data at 124, field 4 refused 20: level too low (call), block 0, place 0
+level 2: data at 124, field 4 refused 20: level too low (call), block 0, place 0
+level 3: data at 124, field 4 refused 20: level too low (call), block 0, place 0
+level 4: data at 124, field 4 nCoverMinutes: 60
+level 5: data at 124, field 4 nCoverMinutes: 60
+level 6: data at 124, field 4 nCoverMinutes: 60
 END
 complains ''
 

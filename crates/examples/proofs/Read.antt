@@ -33,13 +33,13 @@ loca_m = refused_with _ (in_block Key 1 104) refl
 
 -- what is asked of row 6 of cell 1, and where it stands
 asked_six : (l : Layout) (quality : Bool) (level : ℕ) → l.version ≡ 4 → l.start ≡ 72 → l.sizes.bins ≡ 512 → l.sizes.quality ≡ quality → 1 ≤ l.sizes.ranges
-    → (all_of (row_conditions l 4 1 6) then Ok (row_span l 1 6)) ≡ Ok (14408, 4096)
+    → (all_of (row_conditions l.version l.sizes 4 1 6) then Ok (row_span l 1 6)) ≡ Ok (14408, 4096)
 asked_six l true level v d n q some = rw (v, d, n, q, le-leb 1 l.sizes.ranges some) refl
 asked_six l false level v d n q some = rw (v, d, n, q, le-leb 1 l.sizes.ranges some) refl
 
 row_six : (b : List ℕ) (l : Layout) → held b ≡ Ok l → l.version ≡ 4 → l.start ≡ 72 → l.sizes.bins ≡ 512 → RowSix b
 row_six b l h v d n =
-    let at = λ (level : ℕ). ap (λ (x : Result Layout Fault). x with λ m. all_of (row_conditions m level 1 6) then Ok (row_span m 1 6)) h in
+    let at = λ (level : ℕ). ap (λ (x : Result Layout Fault). x with λ m. all_of (row_conditions m.version m.sizes level 1 6) then Ok (row_span m 1 6)) h in
     record {
       found = at 4 ∙ asked_six l l.sizes.quality 4 v d n refl (placed b l h).ranges_from;
       unknown = refused_with _ (fault LayoutUnknown 0) (at 3 ∙ rw v refl);

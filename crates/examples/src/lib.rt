@@ -58,6 +58,8 @@ pub fn example_with_section() -> [u8; 160]
 }
 
 #[cfg(test)]
+mod editor_tests;
+#[cfg(test)]
 mod kind_tests;
 #[cfg(test)]
 mod reader_tests;

@@ -1,5 +1,5 @@
 -- The section of blocks: blocks that were written pass and are read, and blocks that pass were written.
-use Rattle.std.proofs.Common.{◌≡◌, ℕ, zero, suc, ◌+◌, ◌-◌, ◌<◌, ◌≤◌, true, List, [], ◌∷◌, ◌++◌, length, take, drop, is_ok, refl, ◌∙◌, ⊎_elim, append_assoc, add_assoc, arith}
+use Rattle.std.proofs.Common.{◌≡◌, ℕ, zero, suc, ◌+◌, ◌-◌, ◌<◌, ◌≤◌, true, List, [], ◌∷◌, ◌++◌, length, take, drop, is_ok, Ok, refl, ◌∙◌, ⊎_elim, append_assoc, add_assoc, arith}
 use Rattle.std.proofs.ByRecursion.{All-take, All-drop}
 use Rattle.std.proofs.lemmas.List.{length-append, length-take-le, length-drop}
 use Rattle.std.proofs.lemmas.Bool.{cases_lt, le-leb, lt-leb}
@@ -78,4 +78,21 @@ written_blocks b end (suc steps) at n h l a m e =
     let t = le-leb end at p in
     let q : end ≡ at = omega arith in
     rw (t, q) (refl, tt))
+    (cases_lt at end)
+
+-- a walk that ends counts the blocks that are read
+pub walked_count : (b : List ℕ) (end steps at n m : ℕ) → walk b end steps at n ≡ Ok m → m ≡ n + length (blocks_at b end steps at)
+walked_count b end zero at n m e = let same : n ≡ m = cc in omega arith
+walked_count b end (suc steps) at n m e =
+    ⊎_elim
+    (λ (p : at < end).
+    let t = lt-leb end at p in
+    let z = word32 b (at + 4) in
+    let e' : walk b end steps (at + 8 + z) (n + 1) ≡ Ok m = grind (arith, nat_tests) in
+    let r = walked_count b end steps (at + 8 + z) (n + 1) m e' in
+    rw t (omega arith))
+    (λ (p : end ≤ at).
+    let t = le-leb end at p in
+    let same : n ≡ m = grind (arith, nat_tests) in
+    rw t (omega arith))
     (cases_lt at end)

@@ -21,7 +21,7 @@ use Rattle.format.proofs.Rules.{Covers, Agrees, Rules, judged_tells}
 use Rattle.format.proofs.Slots.{end, Known, read_back, written_back, fits, end_slots, unpack-slots, known_words, words_known, within_slots}
 
 -- from version 6 on the header ends at 104
-head_six : (v : ℕ) → 6 ≤ v → header_end v ≡ 104
+pub head_six : (v : ℕ) → 6 ≤ v → header_end v ≡ 104
 head_six v l = rw (le-ltb v 2 (omega arith), le-ltb v 3 (omega arith), le-ltb v 4 (omega arith), le-ltb v 5 (omega arith), le-ltb v 6 l)
 
 -- the sizes that the header gives are those that its fields give
@@ -48,19 +48,19 @@ module _ (b : List ℕ) (v : ℕ) where
   quality_same : (sizes_of b v).quality ≡ (sizes_in v (field_in (fields_of b v))).quality
   quality_same = ⊎_elim (λ (h : v < 2). rw (lt-leb 2 v h)) (λ (h : 2 ≤ v). rw (le-ltb v 2 h)) (cases_lt v 2)
 
-  sizes_same : sizes_of b v ≡ sizes_in v (field_in (fields_of b v))
+  pub sizes_same : sizes_of b v ≡ sizes_in v (field_in (fields_of b v))
   sizes_same =
       λ i. record { ranges = ranges_same i; bins = bins_same i; channels = channels_same i; first = first_same i; quality = quality_same i }
 
 -- the section's size and end, below version 6 and from it on
-no_section : (b : List ℕ) (v : ℕ) → v < 6 → section_size b v ≡ 0
+pub no_section : (b : List ℕ) (v : ℕ) → v < 6 → section_size b v ≡ 0
 no_section b v l = rw (lt-ltb v 6 l)
 
-section_is : (b : List ℕ) (v : ℕ) → 6 ≤ v → section_size b v ≡ word32 b 100
+pub section_is : (b : List ℕ) (v : ℕ) → 6 ≤ v → section_size b v ≡ word32 b 100
 section_is b v l = rw (le-ltb v 6 l)
 
 -- the walk that judging makes has as many steps as the section has bytes
-walk_is : (b : List ℕ) (v : ℕ) → 6 ≤ v → blocks_of b v ≡ walk b (104 + section_size b v) (section_size b v) 104 0
+pub walk_is : (b : List ℕ) (v : ℕ) → 6 ≤ v → blocks_of b v ≡ walk b (104 + section_size b v) (section_size b v) 104 0
 walk_is b v l =
     let q : 104 + section_size b v - 104 ≡ section_size b v = omega arith in
     cond-false (ltb v 6) _ _ (le-ltb v 6 l) ∙ ap (λ n. walk b (104 + section_size b v) n 104 0) q
@@ -70,7 +70,7 @@ none_written : (b : List ℕ) (s e d : ℕ) → s ≡ 0 → e ≤ d
     → (section (blocks_at b (e + s) s e) ++ drop (e + s) b ≡ drop e b) × AllByRecursion Writable (blocks_at b (e + s) s e) × (e + s ≤ d)
 none_written b s e d z l = rw z (ap (λ x. drop x b) (add-zero e), tt, omega arith)
 
-none_read : (b : List ℕ) (s e : ℕ) → s ≡ 0 → blocks_at b (e + s) s e ≡ []
+pub none_read : (b : List ℕ) (s e : ℕ) → s ≡ 0 → blocks_at b (e + s) s e ≡ []
 none_read b s e z = rw z
 
 -- blocks that pass, behind a header that ends at e
@@ -110,7 +110,7 @@ asked : (v i x y : ℕ) (P : ℕ → Type 0) → (i ≤ v → P (cond (ltb v i) 
 asked v i x y P k l = rw (le-ltb v i l) at (k l)
 
 -- bytes that pass the checks are the writing of the sound content that is read from them
-read_sound : (b : List ℕ) (v : ℕ) → word16 b 0 ≡ v → Bytes b → Rules b v → Sound (content_at b v) × (write (content_at b v) ≡ b)
+pub read_sound : (b : List ℕ) (v : ℕ) → word16 b 0 ≡ v → Bytes b → Rules b v → Sound (content_at b v) × (write (content_at b v) ≡ b)
 read_sound b v ev h rest =
     let (sized, rest) = rest in
     let (known-version, rest) = rest in
@@ -224,7 +224,7 @@ extent_read b v d i at ten from is small within e =
     ((λ l. (omega (arith, within l, e l), omega (arith, within l, e l))), λ l. omega (arith, within l, e l))
 
 -- the writing of a sound content passes the checks, and that content is read from it
-written_read : (c : Content) → Sound c → (b : List ℕ) → b ≡ write c
+pub written_read : (c : Content) → Sound c → (b : List ℕ) → b ≡ write c
     → Rules b c.version × (content_at b c.version ≡ c) × (word16 b 0 ≡ c.version)
 written_read c s b is =
     let v = c.version in

@@ -25,7 +25,7 @@ pack-length (follows w x ∷ ss) fs at h =
     let l = length-append (be w x) (pack ss fs) in
     omega (arith, pack-length ss fs (at + size w) h, be-length w x)
 
-header_long : (c : Content) → Fit (header_slots c) c.fields → length (header c) ≡ header_end c.version
+pub header_long : (c : Content) → Fit (header_slots c) c.fields → length (header c) ≡ header_end c.version
 header_long c h =
     let e = end_slots c.version (start c) (length (section c.blocks)) in
     let l = pack-length (header_slots c) c.fields 0 h in
@@ -34,7 +34,7 @@ header_long c h =
 before_end : (n m k : ℕ) → 1 ≤ n → n ≤ m → m ≡ k → n - 1 < k
 before_end n m k from to is = omega arith
 
-few_fields : (v : ℕ) → field_count v ≤ 20
+pub few_fields : (v : ℕ) → field_count v ≤ 20
 few_fields v = grind (arith, nat_tests)
 
 -- the value at a field's spot
@@ -56,7 +56,7 @@ field_there b fs v d s n e l from to =
     let g4 = get_or-take (field_count v) fields (n - 1) (field 0 0 four) among in
     sym (g1 ∙ g2 ∙ ap value g3 ∙ ap (λ (f : Field). value (spot f)) g4)
 
-header_words : (c : Content) → Sound c → HeaderWords c
+pub header_words : (c : Content) → Sound c → HeaderWords c
 header_words c s =
     let v = c.version in
     let n = length (section c.blocks) in
@@ -82,7 +82,7 @@ section-append : (xs ys : List Block) → section (xs ++ ys) ≡ section xs ++ s
 section-append [] ys = refl
 section-append (x ∷ xs) ys = ap (λ (l : List ℕ). block_bytes x ++ l) (section-append xs ys) ∙ sym (append_assoc (block_bytes x) (section xs) (section ys))
 
-regrouped : (a b c d : List ℕ) → a ++ (b ++ (c ++ d)) ≡ (a ++ (b ++ c)) ++ d
+pub regrouped : (a b c d : List ℕ) → a ++ (b ++ (c ++ d)) ≡ (a ++ (b ++ c)) ++ d
 regrouped a b c d = simp append_assoc
 
 -- the old writing, cut behind its header and at two blocks

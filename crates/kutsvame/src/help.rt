@@ -4,7 +4,7 @@ pub const HELP: &str = "\
 Kutsvame judges and reads SeaSonde cross spectra files (CODAR's Cross Spectra File Format).
 
 usage:
-  kutsvame                           judge the built-in example file M and two damaged copies of it
+  kutsvame                           judge the built-in example file M and two damaged copies of it, and amend M
   kutsvame judge FILE...             judge each file and print a line for it
   kutsvame show FILE [LEVEL]         print the sizes, fields and blocks of a file
   kutsvame row FILE CELL ROW [LEVEL] print the numbers of a row, one to a line

@@ -10,7 +10,7 @@ mod row;
 mod show;
 mod words;
 
-use example::judge_example;
+use example::show_example;
 use failure::Failure;
 use help::HELP;
 use judge::judge_files;
@@ -23,7 +23,7 @@ use words::Verb;
 /// Does what the words ask.
 fn run<'a>(rt: &HostRuntime, words: &'a [String]) -> Result<(), Failure<'a>> {
     let Some((word, others)) = words.split_first() else {
-        judge_example(rt)?;
+        show_example(rt)?;
         return Ok(());
     };
     match Verb::named(word.as_str()) {

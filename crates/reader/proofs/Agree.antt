@@ -78,13 +78,13 @@ rows_inside b l h level cell row p e =
 
 -- rows of one cell, the one before the other
 rows_in_order : (start cell bins all before width later : ℕ) → before + width ≤ later
-    → start + cell * (bins * all) + bins * before + bins * width ≤ start + cell * (bins * all) + bins * later
+    → start + (cell * (bins * all) + bins * before) + bins * width ≤ start + (cell * (bins * all) + bins * later)
 rows_in_order start cell bins all before width later h =
     omega (arith, mul-add bins before width, mul-le bins (before + width) bins later (omega arith) h)
 
 -- rows of two cells, the one before the other
 cells_in_order : (start cell other bins all before width later : ℕ) → 1 ≤ cell → cell < other → before + width ≤ all
-    → start + (cell - 1) * (bins * all) + bins * before + bins * width ≤ start + (other - 1) * (bins * all) + bins * later
+    → start + ((cell - 1) * (bins * all) + bins * before) + bins * width ≤ start + ((other - 1) * (bins * all) + bins * later)
 cells_in_order start cell other bins all before width later from less h =
     let row : bins * before + bins * width ≤ bins * all = omega (arith, mul-add bins before width, mul-le bins (before + width) bins all (omega arith) h) in
     let one_more : (cell - 1) * (bins * all) + bins * all ≡ (cell - 1 + 1) * (bins * all) = omega (arith, add-mul (cell - 1) 1 (bins * all)) in
@@ -92,7 +92,7 @@ cells_in_order start cell other bins all before width later from less h =
     omega arith
 
 -- of two cells, or of two rows of one cell, the one before comes first
-span_before : (l : Layout) (cell row other-cell other_row : ℕ) (p q : ℕ × ℕ) → RowOf l cell row p → RowOf l other-cell other_row q
+pub span_before : (l : Layout) (cell row other-cell other_row : ℕ) (p q : ℕ × ℕ) → RowOf l cell row p → RowOf l other-cell other_row q
     → (cell < other-cell) ⊎ ((cell ≡ other-cell) × (row < other_row)) → p.0 + p.1 ≤ q.0
 span_before l cell row other-cell other_row p q o m (inl less) =
     let s = l.sizes in

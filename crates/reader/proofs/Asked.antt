@@ -40,7 +40,7 @@ within a n m e = let p = and_parts (leb a n) (leb n m) e in (leb-true a n p.0, l
 
 pub field_asked : (b : List ℕ) (l : Layout) (level n x : ℕ) → held b ≡ Ok l → field_answer b level n ≡ Ok x → pattern b n ≡ x
 field_asked b l level n x h e =
-    same_ok (pattern b n) x (then_ok (all_of (field_conditions l level n)) (Ok (pattern b n)) x (asked (held b) l (λ m. all_of (field_conditions m level n) then Ok (pattern b n)) x h e)).1
+    same_ok (pattern b n) x (then_ok (all_of (field_conditions l.version level n)) (Ok (pattern b n)) x (asked (held b) l (λ m. all_of (field_conditions m.version level n) then Ok (pattern b n)) x h e)).1
 
 -- a row that is answered is one of the file's
 pub record RowOf (l : Layout) (cell row : ℕ) (p : ℕ × ℕ) : Type 0 where
@@ -52,11 +52,11 @@ pub record RowOf (l : Layout) (cell row : ℕ) (p : ℕ × ℕ) : Type 0 where
 
 pub row_asked : (b : List ℕ) (l : Layout) (level cell row : ℕ) (p : ℕ × ℕ) → held b ≡ Ok l → row_answer b level cell row ≡ Ok p → RowOf l cell row p
 row_asked b l level cell row p h e =
-    let q = then_ok (all_of (row_conditions l level cell row)) (Ok (row_span l cell row)) p
-    (asked (held b) l (λ m. all_of (row_conditions m level cell row) then Ok (row_span m cell row)) p h e) in
+    let q = then_ok (all_of (row_conditions l.version l.sizes level cell row)) (Ok (row_span l cell row)) p
+    (asked (held b) l (λ m. all_of (row_conditions m.version m.sizes level cell row) then Ok (row_span m cell row)) p h e) in
     let c1 = then_ok (level_known level) _ tt q.0 in
-    let c2 = then_ok (layout_known l level) _ tt c1.1 in
-    let c3 = then_ok (row_known l cell row) _ tt c2.1 in
+    let c2 = then_ok (layout_known l.version level) _ tt c1.1 in
+    let c3 = then_ok (row_known l.sizes cell row) _ tt c2.1 in
     let both = and_parts _ _ (unless_ok _ _ c3.0) in
     let cells = within 1 cell l.sizes.ranges both.0 in
     let rows = within 1 row (length (row_widths l.sizes.quality)) both.1 in
@@ -66,7 +66,7 @@ row_asked b l level cell row p h e =
 pub row_answered : (b : List ℕ) (l : Layout) (cell row : ℕ) → held b ≡ Ok l → 1 ≤ cell → cell ≤ l.sizes.ranges → 1 ≤ row
     → row ≤ length (row_widths l.sizes.quality) → row_answer b 6 cell row ≡ Ok (row_span l cell row)
 row_answered b l cell row h cell_from cell_to row_from row_to =
-    ap (λ (y : Result Layout Fault). y with λ m. all_of (row_conditions m 6 cell row) then Ok (row_span m cell row)) h
+    ap (λ (y : Result Layout Fault). y with λ m. all_of (row_conditions m.version m.sizes 6 cell row) then Ok (row_span m cell row)) h
     ∙ rw (le-leb (min l.version 4) 6 (omega arith), le-leb 1 cell cell_from, le-leb cell l.sizes.ranges cell_to, le-leb 1 row row_from, le-leb row (length (row_widths l.sizes.quality)) row_to) refl
 
 -- a block that is answered is one of the file's
@@ -79,18 +79,18 @@ pub record BlockOf (b : List ℕ) (l : Layout) (k : ℕ) (e : Entry) : Type 0 wh
 pub block_asked : (b : List ℕ) (l : Layout) (level k : ℕ) (x : Entry) → held b ≡ Ok l → block_answer b level k ≡ Ok x → BlockOf b l k x
 block_asked b l level k x h e =
     let entry = entry_at b (block_place b (k - 1)) in
-    let q = then_ok (all_of (level_known level ∷ blocks_seen level ∷ block_conditions l k)) (Ok entry) x
-    (asked (held b) l (λ m. all_of (level_known level ∷ blocks_seen level ∷ block_conditions m k) then Ok entry) x h e) in
+    let q = then_ok (all_of (level_known level ∷ blocks_seen level ∷ block_conditions l.version l.blocks k)) (Ok entry) x
+    (asked (held b) l (λ m. all_of (level_known level ∷ blocks_seen level ∷ block_conditions m.version m.blocks k) then Ok entry) x h e) in
     let c1 = then_ok (level_known level) _ tt q.0 in
     let c2 = then_ok (blocks_seen level) _ tt c1.1 in
-    let c3 = then_ok (blocks_present l) _ tt c2.1 in
-    let c4 = then_ok (block_known l k) _ tt c3.1 in
+    let c3 = then_ok (blocks_present l.version) _ tt c2.1 in
+    let c4 = then_ok (block_known l.blocks k) _ tt c3.1 in
     let among = within 1 k l.blocks (unless_ok _ _ c4.0) in
     record { late = leb-true 6 l.version (unless_ok _ _ c3.0); from = among.0; to = among.1; entry = same_ok entry x q.1 }
 
 -- the walk answers for the block: its entry, or 34 past the last
 pub entry_found : (b : List ℕ) (l : Layout) (k before : ℕ) → 6 ≤ l.version → 1 ≤ k → before ≡ k - 1
-    → ok_or (slice_get (entries b l.blocks) before) (fault NoSuchBlock 0) ≡ (all_of (block_conditions l k) then Ok (entry_at b (block_place b (k - 1))))
+    → ok_or (slice_get (entries b l.blocks) before) (fault NoSuchBlock 0) ≡ (all_of (block_conditions l.version l.blocks k) then Ok (entry_at b (block_place b (k - 1))))
 entry_found b l k before late from e =
     let n = l.blocks in
     let entry : ℕ → Entry = λ i. entry_at b (block_place b i) in
@@ -107,20 +107,20 @@ entry_found b l k before late from e =
     (cases_lt n k)
 
 -- an entry that is found is that of the block, which passed its conditions
-pub entry_asked : (b : List ℕ) (l : Layout) (k : ℕ) (e : Entry) → Ok e ≡ (all_of (block_conditions l k) then Ok (entry_at b (block_place b (k - 1))))
-    → (all_of (block_conditions l k) ≡ Ok tt) × (e.place ≡ block_place b (k - 1))
+pub entry_asked : (b : List ℕ) (l : Layout) (k : ℕ) (e : Entry) → Ok e ≡ (all_of (block_conditions l.version l.blocks k) then Ok (entry_at b (block_place b (k - 1))))
+    → (all_of (block_conditions l.version l.blocks k) ≡ Ok tt) × (e.place ≡ block_place b (k - 1))
 entry_asked b l k e is =
     let entry = entry_at b (block_place b (k - 1)) in
-    let q = then_ok (all_of (block_conditions l k)) (Ok entry) e (sym is) in
+    let q = then_ok (all_of (block_conditions l.version l.blocks k)) (Ok entry) e (sym is) in
     (q.0, ap (λ (x : Entry). x.place) (sym (same_ok entry e q.1)))
 
 -- and it lies in the bytes
 pub entry_inside : (b : List ℕ) (l : Layout) (k : ℕ) (r : Result Entry Fault) → Placed b l
-    → r ≡ (all_of (block_conditions l k) then Ok (entry_at b (block_place b (k - 1)))) → IfOk r (λ e. block_end b e.place ≤ length b)
+    → r ≡ (all_of (block_conditions l.version l.blocks k) then Ok (entry_at b (block_place b (k - 1)))) → IfOk r (λ e. block_end b e.place ≤ length b)
 entry_inside b l k (Ok e) p is =
     let q = entry_asked b l k e is in
-    let c1 = then_ok (blocks_present l) _ tt q.0 in
-    let c2 = then_ok (block_known l k) _ tt c1.1 in
+    let c1 = then_ok (blocks_present l.version) _ tt q.0 in
+    let c2 = then_ok (block_known l.blocks k) _ tt c1.1 in
     let among = within 1 k l.blocks (unless_ok _ _ c2.0) in
     block_room b l k e.place p among.0 among.1 q.1
 entry_inside b l k (Err f) p is = tt
@@ -129,7 +129,7 @@ entry_inside b l k (Err f) p is = tt
 pub block_answered : (b : List ℕ) (l : Layout) (k : ℕ) → held b ≡ Ok l → 6 ≤ l.version → 1 ≤ k → k ≤ l.blocks
     → block_answer b 6 k ≡ Ok (entry_at b (block_place b (k - 1)))
 block_answered b l k h late from to =
-    ap (λ (y : Result Layout Fault). y with λ m. all_of (level_known 6 ∷ blocks_seen 6 ∷ block_conditions m k) then Ok (entry_at b (block_place b (k - 1)))) h
+    ap (λ (y : Result Layout Fault). y with λ m. all_of (level_known 6 ∷ blocks_seen 6 ∷ block_conditions m.version m.blocks k) then Ok (entry_at b (block_place b (k - 1)))) h
     ∙ rw (le-leb 6 l.version late, le-leb 1 k from, le-leb k l.blocks to) refl
 
 -- a level of 1 to 6 is answered where the data begin

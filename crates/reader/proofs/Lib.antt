@@ -5,4 +5,5 @@ pub mod Numbers
 pub mod Spans
 pub mod Sights
 pub mod Asked
+pub mod Written
 pub mod Agree

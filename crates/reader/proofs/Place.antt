@@ -27,7 +27,7 @@ unfolding held file_layout
 held_judged b l e = judged_by (judged b) l e
 
 -- one block before n others, or behind them
-shift : (b : List ℕ) (at n : ℕ) → behind b (block_end b at) n ≡ block_end b (behind b at n)
+pub shift : (b : List ℕ) (at n : ℕ) → behind b (block_end b at) n ≡ block_end b (behind b at n)
 shift b at zero = refl
 shift b at (suc n) = ap (block_end b) (shift b at n)
 

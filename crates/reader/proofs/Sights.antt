@@ -78,9 +78,9 @@ past_conditions r l check answer e f = ap (λ (x : Result Layout Fault). x with 
 
 -- looking at the block that is asked for shows what the definition says
 pub look_shown : {R : Type 0} (numbers : R → List ℕ) (kind : KindSpec) (b : List ℕ) (l : Layout) (k : ℕ) (e : Entry) (r : Result (Reading R) Fault)
-    → Ok l ≡ held b → Ok e ≡ (all_of (block_conditions l k) then Ok (entry_at b (block_place b (k - 1)))) → block_end b e.place ≤ length b
+    → Ok l ≡ held b → Ok e ≡ (all_of (block_conditions l.version l.blocks k) then Ok (entry_at b (block_place b (k - 1)))) → block_end b e.place ≤ length b
     → Looks numbers kind k e.place b r → shown numbers r ≡ look_answer kind b k
 look_shown numbers kind b l k e r file found room h =
     let asked = entry_asked b l k e found in
-    let passed = past_conditions (held b) l (λ (m : Layout). all_of (block_conditions m k)) (block_sight kind b k (block_place b (k - 1))) file asked.0 in
+    let passed = past_conditions (held b) l (λ (m : Layout). all_of (block_conditions m.version m.blocks k)) (block_sight kind b k (block_place b (k - 1))) file asked.0 in
     looks_shown numbers kind k e.place b r room h ∙ ap (block_sight kind b k) asked.1 ∙ sym passed

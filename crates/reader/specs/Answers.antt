@@ -7,6 +7,7 @@ use Rattle.faults.specs.declared.fault.Fault.{Fault}
 use Rattle.faults.specs.declared.refusal.Refusal.TheVariants.{Key}
 use Rattle.faults.specs.Faults.{in_block}
 use Rattle.format.specs.declared.judging.Layout.{Layout}
+use Rattle.format.specs.declared.sizes.Sizes.{Sizes}
 use Rattle.format.specs.Checks.{unless, ◌then◌, ◌with◌, all_of}
 use Rattle.format.specs.Header.{pattern, header_end}
 use Rattle.format.specs.Rows.{row_widths, bin_width}
@@ -35,7 +36,7 @@ start_answer b level = held b with λ l. level_known level then Ok (start_by b (
 
 -- field: the pattern of field n
 abbrev pub field_answer : List ℕ → ℕ → ℕ → Result ℕ Fault
-field_answer b level n = held b with λ l. all_of (field_conditions l level n) then Ok (pattern b n)
+field_answer b level n = held b with λ l. all_of (field_conditions l.version level n) then Ok (pattern b n)
 
 -- the bytes that a bin has in the rows before a row, and in the row itself
 abbrev pub width_before : Bool → ℕ → ℕ
@@ -44,15 +45,18 @@ width_before quality row = sum (take (row - 1) (row_widths quality))
 abbrev pub width_of : Bool → ℕ → ℕ
 width_of quality row = slice_index (row_widths quality) (row - 1)
 
--- where a row of a cell begins, and how many bytes it has: cells follow each other from D on, and rows in a cell
+-- where a row of a cell begins in the cells, and how many bytes it has: cells follow each other, and rows in a cell
+abbrev pub row_in : Sizes → ℕ → ℕ → ℕ × ℕ
+row_in s cell row =
+    ((cell - 1) * (s.bins * bin_width s.quality) + s.bins * width_before s.quality row, s.bins * width_of s.quality row)
+
+-- where it begins in a file, whose cells begin at D
 abbrev pub row_span : Layout → ℕ → ℕ → ℕ × ℕ
-row_span l cell row =
-    let s = l.sizes in
-    (l.start + (cell - 1) * (s.bins * bin_width s.quality) + s.bins * width_before s.quality row, s.bins * width_of s.quality row)
+row_span l cell row = (l.start + (row_in l.sizes cell row).0, (row_in l.sizes cell row).1)
 
 -- row: its place and its length
 abbrev pub row_answer : List ℕ → ℕ → ℕ → ℕ → Result (ℕ × ℕ) Fault
-row_answer b level cell row = held b with λ l. all_of (row_conditions l level cell row) then Ok (row_span l cell row)
+row_answer b level cell row = held b with λ l. all_of (row_conditions l.version l.sizes level cell row) then Ok (row_span l cell row)
 
 -- the bytes of a row
 abbrev pub row_part : List ℕ → ℕ → ℕ → ℕ → Result (List ℕ) Fault
@@ -99,7 +103,7 @@ entry_at b at = record { key = word32 b at; place = at; size = word32 b (at + 4)
 -- block: the entry of block k
 abbrev pub block_answer : List ℕ → ℕ → ℕ → Result Entry Fault
 block_answer b level k =
-    held b with λ l. all_of (level_known level ∷ blocks_seen level ∷ block_conditions l k) then Ok (entry_at b (block_place b (k - 1)))
+    held b with λ l. all_of (level_known level ∷ blocks_seen level ∷ block_conditions l.version l.blocks k) then Ok (entry_at b (block_place b (k - 1)))
 
 -- table: the count of blocks, for which there must be room
 abbrev pub table_answer : List ℕ → ℕ → Result ℕ Fault
@@ -142,7 +146,7 @@ block_sight kind b k at =
 -- look: block k as a kind
 abbrev pub look_answer : KindSpec → List ℕ → ℕ → Result Sight Fault
 look_answer kind b k =
-    held b with λ l. all_of (block_conditions l k) then block_sight kind b k (block_place b (k - 1))
+    held b with λ l. all_of (block_conditions l.version l.blocks k) then block_sight kind b k (block_place b (k - 1))
 
 -- a result of looking, with the numbers of its record
 abbrev pub shown : {R : Type 0} → (R → List ℕ) → Result (Reading R) Fault → Result Sight Fault

@@ -1,12 +1,15 @@
 -- What holds of every accepted file b with the layout l, whichever level reads it.
-use Rattle.std.specs.Prelude.{◌≡◌, ℕ, ◌+◌, ◌-◌, ◌*◌, ◌/◌, ◌<◌, ◌≤◌, ◌⊎◌, List, length, Ok, ◌≢◌, slice_index, slice_index_or}
+use Rattle.std.specs.Prelude.{◌≡◌, ℕ, ◌+◌, ◌-◌, ◌*◌, ◌/◌, ◌<◌, ◌≤◌, ◌⊎◌, List, length, Some, Ok, ◌≢◌, slice_index, slice_index_or}
+use Rattle.std.specs.List.{slice_get}
 use Rattle.buffers.specs.Words.{word32}
 use Rattle.format.specs.declared.judging.Layout.{Layout}
-use Rattle.format.specs.Header.{version, data_start, header_end}
+use Rattle.format.specs.Content.{Block, Content, section, start, field_in, content_sizes, write, Sound, content}
+use Rattle.format.specs.Header.{the_field, version, pattern, data_start, header_end}
 use Rattle.format.specs.Rows.{cells_size}
 use Rattle.format.specs.Section.{block_end}
+use Rattle.kinds.specs.Look.{key_at, data_at}
 use Rattle.reader.specs.declared.blocks.Entry.{Entry}
-use Rattle.reader.specs.Answers.{part, patterns, filled, block_place, start_answer, field_answer, row_answer, numbers_answer, numbers_list, block_answer, table_answer, table_list}
+use Rattle.reader.specs.Answers.{part, patterns, filled, row_in, block_place, start_answer, field_answer, row_answer, numbers_answer, numbers_list, block_answer, table_answer, table_list}
 use Rattle.reader.specs.Levels.{held}
 
 -- the parts of the file lie in its bytes
@@ -74,6 +77,25 @@ TableOfBlocks b l =
     (old : List Entry) → l.blocks ≤ length old
     → (table_answer b (length old) ≡ Ok l.blocks)
     × ((k : ℕ) (d : Entry) → 1 ≤ k → k ≤ l.blocks → block_answer b 6 k ≡ Ok (slice_index_or (table_list b old) (k - 1) d))
+
+-- the file is the writing of its content, which is sound, and what is read is what the content says: the header's words are its
+-- version and fields, the bytes of a row are those of its cells, and a block's key and data those of its block of the same number
+pub record ContentRead (b : List ℕ) (l : Layout) (c : Content) : Type 0 where
+  pub sound : Sound c
+  pub written : write c ≡ b
+  pub version_is : l.version ≡ c.version
+  pub start_is : l.start ≡ start c
+  pub sizes_are : l.sizes ≡ content_sizes c
+  pub section_is : l.section ≡ length (section c.blocks)
+  pub blocks_are : l.blocks ≡ length c.blocks
+  pub fields : (n : ℕ) → 1 ≤ n → n ≤ 20 → (the_field n).level ≤ c.version → (n ≤ length c.fields) × (pattern b n ≡ field_in c.fields n)
+  pub rows : (cell row : ℕ) (p : ℕ × ℕ) → row_answer b 6 cell row ≡ Ok p → part b p ≡ part c.cells (row_in l.sizes cell row)
+  pub blocks : (k : ℕ) (x : Block) → slice_get c.blocks k ≡ Some x
+      → (key_at b (block_place b k) ≡ x.key) × (data_at b (block_place b k) ≡ x.body)
+
+-- at every file
+pub record ReadFile (b : List ℕ) : Type 0 where
+  pub each : (l : Layout) → held b ≡ Ok l → ContentRead b l (content b)
 
 -- the readers of all levels agree
 pub record ReadersAgree (b : List ℕ) (l : Layout) : Type 0 where

@@ -5,6 +5,7 @@ use Rattle.faults.specs.declared.fault.Fault.{Fault}
 use Rattle.faults.specs.declared.refusal.Refusal.TheVariants.{NoFile, Level, LevelTooLow, VersionLacksIt, NoSuchField, NoSuchCellOrRow, NoSuchBlock, LayoutUnknown, ListOrTableTooShort}
 use Rattle.faults.specs.Faults.{fault}
 use Rattle.format.specs.declared.judging.Layout.{Layout}
+use Rattle.format.specs.declared.sizes.Sizes.{Sizes}
 use Rattle.format.specs.Checks.{Check, unless}
 use Rattle.format.specs.Header.{fields, the_field}
 use Rattle.format.specs.Judging.{judged}
@@ -47,18 +48,18 @@ abbrev pub field_seen : ℕ → ℕ → Check
 field_seen level n = unless (nat_le (the_field n).level level) (fault LevelTooLow 0)
 
 -- a file has the fields of its version and of those before
-abbrev pub field_present : Layout → ℕ → Check
-field_present l n = unless (nat_le (the_field n).level l.version) (fault VersionLacksIt 0)
+abbrev pub field_present : ℕ → ℕ → Check
+field_present v n = unless (nat_le (the_field n).level v) (fault VersionLacksIt 0)
 
 -- a level below the file's, counted up to 4, does not know how the data are laid out
-abbrev pub layout_known : Layout → ℕ → Check
-layout_known l level = unless (nat_le (min l.version 4) level) (fault LayoutUnknown 0)
+abbrev pub layout_known : ℕ → ℕ → Check
+layout_known v level = unless (nat_le (min v 4) level) (fault LayoutUnknown 0)
 
 -- the cell is one of the file's, and the row one of a cell's
-abbrev pub row_known : Layout → ℕ → ℕ → Check
-row_known l cell row =
+abbrev pub row_known : Sizes → ℕ → ℕ → Check
+row_known s cell row =
     unless
-    ((nat_le 1 cell && nat_le cell l.sizes.ranges) && (nat_le 1 row && nat_le row (length (row_widths l.sizes.quality))))
+    ((nat_le 1 cell && nat_le cell s.ranges) && (nat_le 1 row && nat_le row (length (row_widths s.quality))))
     (fault NoSuchCellOrRow 0)
 
 -- a list or table of `room` places has room for n
@@ -70,21 +71,21 @@ abbrev pub blocks_seen : ℕ → Check
 blocks_seen level = unless (nat_le 6 level) (fault LevelTooLow 0)
 
 -- version 6 is the first that has blocks
-abbrev pub blocks_present : Layout → Check
-blocks_present l = unless (nat_le 6 l.version) (fault VersionLacksIt 0)
+abbrev pub blocks_present : ℕ → Check
+blocks_present v = unless (nat_le 6 v) (fault VersionLacksIt 0)
 
--- the block is one of the file's
-abbrev pub block_known : Layout → ℕ → Check
-block_known l k = unless (nat_le 1 k && nat_le k l.blocks) (fault NoSuchBlock 0)
+-- the block is one of the file's n
+abbrev pub block_known : ℕ → ℕ → Check
+block_known n k = unless (nat_le 1 k && nat_le k n) (fault NoSuchBlock 0)
 
--- what is asked of a row, in order
-abbrev pub row_conditions : Layout → ℕ → ℕ → ℕ → List Check
-row_conditions l level cell row = level_known level ∷ layout_known l level ∷ row_known l cell row ∷ []
+-- what is asked of a row, in order, in a file of version v and those sizes
+abbrev pub row_conditions : ℕ → Sizes → ℕ → ℕ → ℕ → List Check
+row_conditions v s level cell row = level_known level ∷ layout_known v level ∷ row_known s cell row ∷ []
 
--- what is asked of a field, in order
-abbrev pub field_conditions : Layout → ℕ → ℕ → List Check
-field_conditions l level n = level_known level ∷ field_known n ∷ field_seen level n ∷ field_present l n ∷ []
+-- what is asked of a field, in order, in a file of version v
+abbrev pub field_conditions : ℕ → ℕ → ℕ → List Check
+field_conditions v level n = level_known level ∷ field_known n ∷ field_seen level n ∷ field_present v n ∷ []
 
--- what is asked of a block, in order, without a level
-abbrev pub block_conditions : Layout → ℕ → List Check
-block_conditions l k = blocks_present l ∷ block_known l k ∷ []
+-- what is asked of a block, in order, without a level, in a file of version v with n blocks
+abbrev pub block_conditions : ℕ → ℕ → ℕ → List Check
+block_conditions v n k = blocks_present v ∷ block_known n k ∷ []

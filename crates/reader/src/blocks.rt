@@ -93,7 +93,7 @@ impl<'a> JudgedFile<'a> {
     /// The entry of a block; refuses 33 below version 6, and 34 for no such block.
     fn entry(&self, layout: Layout, number: usize) -> Result<Entry, Fault>
         requires { Placed self.now.bytes.now layout }
-        ensures exact { result ≡ (all_of (block_conditions layout number) then Ok (entry_at self.now.bytes.now (block_place self.now.bytes.now (number - 1)))) }
+        ensures exact { result ≡ (all_of (block_conditions layout.version layout.blocks number) then Ok (entry_at self.now.bytes.now (block_place self.now.bytes.now (number - 1)))) }
         ensures inside { IfOk result (λ entry. block_end self.now.bytes.now entry.place ≤ length self.now.bytes.now) }
     {
         if layout.version < 6 {

@@ -13,7 +13,7 @@ use format::Layout;
 /// A field of the header, by its number, which is one of 1 to 20.
 // An enum of twenty names would be no plainer: levels and places go by ranges of the number, and a question asks by it.
 #[derive(Clone, Copy, PartialEq, Eq, Debug)]
-struct Field {
+pub struct Field {
     number: usize,
     ghost known: { (1 ≤ number) × (number ≤ 20) },
 }
@@ -35,7 +35,7 @@ impl TryFrom<usize> for Field {
 
 impl Field {
     /// The level from which a file has the field.
-    fn level(self) -> usize
+    pub fn level(self) -> usize
         ensures { result ≡ (the_field self.number).level }
     {
         match self.number {
@@ -46,7 +46,7 @@ impl Field {
     }
 
     /// Where the field stands.
-    fn place(self) -> usize
+    pub fn place(self) -> usize
         ensures { result ≡ (the_field self.number).place }
     {
         match self.number {
@@ -72,7 +72,7 @@ impl Field {
 
 /// The field of that number, as it is asked for; refuses 19, 18, 20 and 33.
 fn check_field(layout: Layout, level: usize, number: usize) -> Result<Field, Fault>
-    ensures refuses { passed result ≡ all_of (field_conditions layout level number) }
+    ensures refuses { passed result ≡ all_of (field_conditions layout.version level number) }
     ensures same { IfOk result (λ field. field.number ≡ number) }
 {
     check_level(level)?;

@@ -1,7 +1,7 @@
 //! The judged file: how it is made, its version, and where each level finds the data.
 ghost use Rattle.std.specs.Prelude.{◌≡◌, IfOk};
 ghost use Rattle.reader.specs.Answers.{version_answer, start_answer};
-ghost use Rattle.reader.specs.Laws.{Placed, AgreedFile};
+ghost use Rattle.reader.specs.Laws.{Placed, AgreedFile, ReadFile};
 ghost use Rattle.reader.specs.Levels.{held, file_layout, numbers_of, level_known};
 
 use buffers::Word;
@@ -37,6 +37,7 @@ impl<'a> JudgedFile<'a> {
     pub fn of(bytes: &'a [u8]) -> JudgedFile<'a>
         ensures bytes { result.bytes.now ≡ bytes.now }
         ensures agree { AgreedFile bytes.now }
+        ensures read { ReadFile bytes.now }
     {
         JudgedFile {
             bytes,

@@ -8,5 +8,6 @@ mod parts;
 mod rows;
 
 pub use blocks::Entry;
+pub use fields::Field;
 pub use judged::JudgedFile;
 pub use rows::{RowAt, row_count};

@@ -82,7 +82,7 @@ impl Row {
 
 /// The row as it is asked for; refuses 19, 37 and 16.
 fn check_row(layout: Layout, at: RowAt) -> Result<Row, Fault>
-    ensures refuses { passed result ≡ all_of (row_conditions layout at.level at.cell at.row) }
+    ensures refuses { passed result ≡ all_of (row_conditions layout.version layout.sizes at.level at.cell at.row) }
     ensures layout { IfOk result (λ r. r.layout ≡ layout) }
     ensures same { IfOk result (λ r. (r.cell ≡ at.cell) × (r.row ≡ at.row)) }
 {

@@ -23,7 +23,7 @@ returns c =
     sym (option_map_id c.nth.result)
     ∙ nth_from_yields_List c.nth.result c.nth.new.self before c.nth.ensures.ran
     (YieldsList-from_first (λ (x : Entry). x) (λ (heads : Heads). entries_from heads.bytes.now heads.at heads.left) (entries b l.blocks) c.heads.ensures.all) in
-    let exact : c.ok_or-2.result ≡ (all_of (block_conditions l k) then Ok (entry_at b (block_place b (k - 1)))) =
+    let exact : c.ok_or-2.result ≡ (all_of (block_conditions l.version l.blocks k) then Ok (entry_at b (block_place b (k - 1)))) =
     c.ok_or-2.ensures.value
     ∙ (λ i. ok_or (met i) (c.at-none.ensures i))
     ∙ entry_found b l k before c.if-layout-lt6.false from is in

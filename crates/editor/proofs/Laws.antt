@@ -1,0 +1,217 @@
+-- The readers' law.
+use Rattle.std.proofs.Common.{◌≡◌, ℕ, zero, suc, ◌-◌, ◌<◌, ◌≤◌, leb, List, [], ◌∷◌, length, Some, Ok, Err, Result, sym, refl, ap, ◌∙◌, subst, arith}
+use Rattle.std.proofs.lemmas.Bool.{leb-true, le-leb, cond-true}
+use Rattle.std.proofs.lemmas.Option.{slice_get_within}
+use Rattle.std.specs.List.{slice_get}
+use Rattle.buffers.specs.Words.{Bytes}
+use Rattle.faults.specs.declared.fault.Fault.{Fault}
+use Rattle.faults.specs.declared.refusal.Refusal.TheVariants.{TooFewBytes, NoFile}
+use Rattle.faults.specs.Faults.{fault}
+use Rattle.format.specs.declared.judging.Layout.{Layout}
+use Rattle.format.specs.Checks.{◌then◌, ◌with◌, passed}
+use Rattle.format.specs.Content.{Content, Sound, write, content}
+use Rattle.format.specs.Judging.{judged}
+use Rattle.kinds.specs.Kind.{KindSpec, Keeps}
+use Rattle.reader.specs.Laws.{ReadFile}
+use Rattle.reader.specs.Levels.{held}
+use Rattle.reader.proofs.Asked.{then_ok, unless_ok}
+use Rattle.reader.proofs.Written.{sound_file}
+use Rattle.editor.specs.Edits.{Edit, edited}
+use Rattle.editor.specs.Calls.{State, state, capacity, file, if_held, made, Call, load, edit, wanted, room_for, outcome, settled, answer, after}
+use Rattle.editor.specs.Ledger.{Page, Ledger, blank, page, opened, opened_if, begun, unused, noted, taken, entered}
+use Rattle.editor.specs.Law.{Event, Given, Run, stop, call, ask, ledger, Shows, Marked, Law}
+use Rattle.editor.proofs.Agrees.{Agrees, opens}
+use Rattle.editor.proofs.Held.{Holding, not_both, with_ok, judged_held, refused_none, content_is, file_content_is, holding_of, settled_holds}
+use Rattle.editor.proofs.Kept.{Follows, edit_keeps}
+use Rattle.editor.proofs.Looks.{Showing, showing_of, shows_of}
+use Rattle.editor.proofs.Marks.{beside_at, beside_one, below_at, new_beside}
+use Rattle.editor.proofs.Telling.{Both, not_page, tells}
+
+same_ok : {X : Type 0} (x y : X) → ◌≡◌ {A = Result X Fault} (Ok x) (Ok y) → x ≡ y
+same_ok x y e = cc
+
+fits : (most : ℕ) (r : Result Content Fault) (d : Content) → (r with λ c. room_for most c then Ok c) ≡ Ok d → (r ≡ Ok d) × (length (write d) ≤ most)
+fits most r d e =
+    let w = with_ok r (λ c. room_for most c then Ok c) d e in
+    let c = w.0 in
+    let q = then_ok (room_for most c) (Ok c) d w.2 in
+    let room : length (write c) ≤ most = leb-true _ _ (unless_ok _ _ q.0) in
+    let is : c ≡ d = same_ok c d q.1 in
+    (w.1 ∙ ap Ok is, subst (λ (x : Content). length (write x) ≤ most) is room)
+
+-- a file and a page that agree, and the block that has the mark m shows that
+abbrev Tracked : KindSpec → List ℕ → List ℕ → ℕ → Ledger → State → Type 0
+Tracked kind numbers text m blank s = ⊥
+Tracked kind numbers text m (page p) s = (c : Content) × Holding s c × Agrees p c × Follows kind numbers text m p c
+
+-- what an accepted call leaves
+record Moved (l : Ledger) (s : State) (k : Call) (d : Content) : Type 0 where
+  pub page_of : Page
+  pub entered : taken k l ≡ page page_of
+  pub holding : Holding (settled s (Ok d)) d
+  pub agrees : Agrees page_of d
+  pub follows : (kind : KindSpec) → Keeps kind → (numbers text : List ℕ) (m : ℕ) → Tracked kind numbers text m l s → Follows kind numbers text m page_of d
+
+-- a load gives new marks
+load_follows : (l : Ledger) (s : State) (c : Content) (kind : KindSpec) (numbers text : List ℕ) (m : ℕ) → Tracked kind numbers text m l s
+    → Follows kind numbers text m (opened (unused l) c) c
+load_follows blank s c kind numbers text m t = absurd t
+load_follows (page p) s c kind numbers text m t =
+    let given = t.3.given in
+    record {
+      given = omega arith;
+      beside = new_beside (λ n x. n ≡ m → Showing kind numbers text x) p.next c.blocks (λ n x from e. absurd (omega arith));
+    }
+
+moved_load : (l : Ledger) (s : State) (bytes : List ℕ) (d : Content) → outcome (load bytes) s ≡ Ok d → Bytes bytes → Moved l s (load bytes) d
+moved_load l s bytes d e given =
+    let f = fits (capacity s.buffer) (wanted (load bytes) s) d e in
+    let j = with_ok (judged bytes) (λ m. Ok (content bytes)) d f.0 in
+    let is : content bytes ≡ d = same_ok _ d j.2 in
+    let sound : Sound d = subst Sound is (sound_file bytes j.0 given (judged_held bytes j.0 j.1)).0 in
+    record {
+      page_of = opened (unused l) (content bytes);
+      entered = refl;
+      holding = settled_holds s d sound f.1;
+      agrees = subst (Agrees (opened (unused l) (content bytes))) is (opens (unused l) (content bytes));
+      follows = λ kind keeps numbers text m t.
+          subst (Follows kind numbers text m (opened (unused l) (content bytes))) is (load_follows l s (content bytes) kind numbers text m t);
+    }
+
+moved_edit : (p : Page) (s : State) (e : Edit) (c d : Content) → Holding s c → Agrees p c → outcome (edit e) s ≡ Ok d → Given (edit e) → Moved (page p) s (edit e) d
+moved_edit p s e c d h a o given =
+    let f = fits (capacity s.buffer) (wanted (edit e) s) d o in
+    let made : edited e c ≡ Ok d = ap (λ (r : Result Content Fault). r with edited e) (sym (file_content_is s c h)) ∙ f.0 in
+    let k = edit_keeps e p c d h.sound given (omega (arith, f.1)) a made in
+    record {
+      page_of = noted e p;
+      entered = refl;
+      holding = settled_holds s d k.sound f.1;
+      agrees = k.agrees;
+      follows = λ kind keeps numbers text m t.
+          let same : t.0 ≡ c = sym (content_is s t.0 t.1) ∙ content_is s c h in
+          k.follows kind keeps numbers text m (subst (Follows kind numbers text m p) same t.3);
+    }
+
+-- without a file no edit is accepted
+no_edit : (s : State) (e : Edit) (d : Content) → held (file s) ≡ Err (fault NoFile 0) → outcome (edit e) s ≡ Ok d → ⊥
+no_edit s e d none o =
+    not_both d (fault NoFile 0)
+    (ap (λ (r : Result Layout Fault). (((r with λ l. Ok (content (file s))) with edited e) with λ c. room_for (capacity s.buffer) c then Ok c)) (sym none) ∙ o)
+
+moved : (l : Ledger) (s : State) (k : Call) (d : Content) → Both l s → outcome k s ≡ Ok d → Given k → Moved l s k d
+moved l s (load bytes) d b o given = moved_load l s bytes d o given
+moved blank s (edit e) d b o given = absurd (no_edit s e d b o)
+moved (page p) s (edit e) d b o given = moved_edit p s e b.0 d b.1 b.2 o given
+
+-- one call
+stepped : (l : Ledger) (s : State) (k : Call) (r : Result Content Fault) → outcome k s ≡ r → Given k → Both l s → Both (entered l k (passed r)) (settled s r)
+stepped l s k (Err f) o given b = b
+stepped l s k (Ok d) o given b =
+    let m = moved l s k d b o given in
+    subst (λ (x : Ledger). Both x (settled s (Ok d))) (sym m.entered) (d, m.holding, m.agrees)
+
+module _ (kind : KindSpec) (keeps : Keeps kind) (numbers text : List ℕ) (m : ℕ) where
+  tracked : (l : Ledger) (s : State) (k : Call) (r : Result Content Fault) → outcome k s ≡ r → Given k → Both l s → Tracked kind numbers text m l s
+      → Tracked kind numbers text m (entered l k (passed r)) (settled s r)
+  tracked l s k (Err f) o given b t = t
+  tracked l s k (Ok d) o given b t =
+      let v = moved l s k d b o given in
+      subst (λ (x : Ledger). Tracked kind numbers text m x (settled s (Ok d))) (sym v.entered) (d, v.holding, v.agrees, v.follows kind keeps numbers text m t)
+
+-- a run
+run_both : (l : Ledger) {s t : State} {es : List Event} → Both l s → Run s es t → Both (ledger l es) t
+unfolding answer after
+run_both l b stop = b
+run_both l {s} b (call c given r) = run_both (entered l c (answer c s)) (stepped l s c (outcome c s) refl given b) r
+run_both l b (ask r) = run_both l b r
+
+run_tracked : (kind : KindSpec) → Keeps kind → (numbers text : List ℕ) (m : ℕ) (l : Ledger) {s t : State} {es : List Event} → Both l s → Tracked kind numbers text m l s → Run s es t
+    → Tracked kind numbers text m (ledger l es) t
+unfolding answer after
+run_tracked kind keeps numbers text m l b t stop = t
+run_tracked kind keeps numbers text m l {s} b t (call c given r) =
+    run_tracked kind keeps numbers text m (entered l c (answer c s)) (stepped l s c (outcome c s) refl given b)
+    (tracked kind keeps numbers text m l s c (outcome c s) refl given b t) r
+run_tracked kind keeps numbers text m l b t (ask r) = run_tracked kind keeps numbers text m l b t r
+
+-- from the block that is marked to the marks, and back
+there_is : {B : Type 0} (bs : List B) (i : ℕ) → i < length bs → (x : B) × (slice_get bs i ≡ Some x)
+there_is [] i h = absurd (omega arith)
+there_is (b ∷ bs) zero h = (b, refl)
+there_is (b ∷ bs) (suc i) h = there_is bs i (omega arith)
+
+same_page : (p q : Page) → page p ≡ page q → p ≡ q
+same_page p q e = cc
+
+module _ (kind : KindSpec) (keeps : Keeps kind) (numbers text : List ℕ) (m : ℕ) where
+  starts : (l : Ledger) (s : State) (i : ℕ) → Both l s → Marked l i m → Shows kind s i numbers text → Tracked kind numbers text m l s
+  starts blank s i b marked shows = absurd (not_page marked.0 marked.1)
+  starts (page q) s i b marked shows =
+      let (c, h, a) = b in
+      let (p, is, from, at) = marked in
+      let same : q ≡ p = same_page q p is in
+      let mine : slice_get q.marks (i - 1) ≡ Some m = subst (λ (x : Page). slice_get x.marks (i - 1) ≡ Some m) (sym same) at in
+      let among = slice_get_within q.marks (i - 1) m mine in
+      let x = there_is c.blocks (i - 1) (omega (arith, a.count)) in
+      let showing = showing_of kind keeps s c h i x.0 numbers text x.1 shows in (
+        c,
+        h,
+        a,
+        record {
+          given = below_at q.next q.marks (i - 1) m a.below mine;
+          beside = beside_one (Showing kind numbers text) q.marks c.blocks (i - 1) m x.0 a.apart a.count mine x.1 showing;
+        },
+      )
+
+  ends : (l : Ledger) (s : State) (j : ℕ) → Tracked kind numbers text m l s → Marked l j m → Shows kind s j numbers text
+  ends blank s j t marked = absurd t
+  ends (page q) s j t marked =
+      let (c, h, a, f) = t in
+      let (p, is, from, at) = marked in
+      let same : q ≡ p = same_page q p is in
+      let mine : slice_get q.marks (j - 1) ≡ Some m = subst (λ (x : Page). slice_get x.marks (j - 1) ≡ Some m) (sym same) at in
+      let x = beside_at (λ n y. n ≡ m → Showing kind numbers text y) q.marks c.blocks (j - 1) m f.beside mine in
+      shows_of kind keeps s c h j x.0 numbers text from x.1 (x.2 refl)
+
+pub law_from : (l : Ledger) (s : State) → Both l s → Law l s
+law_from l s b =
+    record {
+      tells = λ es t r. tells (ledger l es) t (run_both l b r);
+      lasts = λ es fs t u r q kind keeps i j m numbers text marked shows later.
+          let at = run_both l b r in
+          let track = starts kind keeps numbers text m (ledger l es) t i at marked shows in
+          ends kind keeps numbers text m (ledger (ledger l es) fs) u j (run_tracked kind keeps numbers text m (ledger l es) at track q) later;
+    }
+
+-- the making
+-- where the bytes are a file
+begun_held : (buffer : List ℕ) (n : ℕ) (l : Layout) → ReadFile (file (state buffer n)) → held (file (state buffer n)) ≡ Ok l → Both (begun buffer n) (made buffer n)
+begun_held buffer n l read e =
+    let s = state buffer n in
+    let b = file s in
+    let holding : Holding s (content b) = holding_of s l read e in
+    let same : made buffer n ≡ s = ap (λ (r : Result Layout Fault). state buffer (if_held r n)) e in
+    let opening : begun buffer n ≡ page (opened 0 (content b)) = ap (λ (r : Result Layout Fault). opened_if (r with λ m. Ok (content b))) e in
+    subst (λ (x : State). Both (begun buffer n) x) (sym same)
+    (subst (λ (x : Ledger). Both x s) (sym opening) (content b, holding, opens 0 (content b)))
+
+-- and where they are none
+begun_none : (buffer : List ℕ) (n : ℕ) → held (file (state buffer n)) ≡ Err (fault NoFile 0) → Both (begun buffer n) (made buffer n)
+begun_none buffer n e =
+    let b = file (state buffer n) in
+    let same : made buffer n ≡ state buffer 0 = ap (λ (r : Result Layout Fault). state buffer (if_held r n)) e in
+    let opening : begun buffer n ≡ blank = ap (λ (r : Result Layout Fault). opened_if (r with λ m. Ok (content b))) e in
+    let nothing : file (state buffer 0) ≡ [] = cond-true (leb 0 (capacity buffer)) _ _ (le-leb 0 (capacity buffer) (omega arith)) in
+    let none : held (file (state buffer 0)) ≡ Err (fault NoFile 0) = ap held nothing ∙ refused_none [] (fault TooFewBytes 0) refl in
+    subst (λ (x : State). Both (begun buffer n) x) (sym same) (subst (λ (x : Ledger). Both x (state buffer 0)) (sym opening) none)
+
+begun_by : (buffer : List ℕ) (n : ℕ) → ReadFile (file (state buffer n)) → (r : Result Layout Fault) → judged (file (state buffer n)) ≡ r → Both (begun buffer n) (made buffer n)
+begun_by buffer n h (Ok l) e = begun_held buffer n l h (judged_held (file (state buffer n)) l e)
+begun_by buffer n h (Err f) e = begun_none buffer n (refused_none (file (state buffer n)) f e)
+
+begins_with : (buffer : List ℕ) (n : ℕ) → ReadFile (file (state buffer n)) → Both (begun buffer n) (made buffer n)
+begins_with buffer n h = begun_by buffer n h (judged (file (state buffer n))) refl
+
+pub every_run : (buffer : List ℕ) (n : ℕ) → ReadFile (file (state buffer n)) → Law (begun buffer n) (made buffer n)
+every_run buffer n h = law_from (begun buffer n) (made buffer n) (begins_with buffer n h)

@@ -1,0 +1,11 @@
+pub mod Places
+pub mod Held
+pub mod Sounds
+pub mod Marks
+pub mod Agrees
+pub mod Looks
+pub mod Kept
+pub mod Telling
+pub mod Laws
+pub mod Done
+pub mod Sessions
