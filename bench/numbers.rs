@@ -75,8 +75,11 @@ fn main() {
     check_refusals(&file);
     timing::compare(
         "numbers",
-        REPEATS,
-        || ours(black_box(&file), black_box(&mut lists.0)),
-        || theirs(black_box(&file), black_box(&mut lists.1)),
+        || timing::time(REPEATS, || ours(black_box(&file), black_box(&mut lists.0))),
+        || {
+            timing::time(REPEATS, || {
+                theirs(black_box(&file), black_box(&mut lists.1))
+            })
+        },
     );
 }

@@ -5,7 +5,7 @@ use std::time::Instant;
 const RUNS: usize = 20;
 
 /// Runs the work `repeats` times; answers the nanoseconds that it took each time.
-fn time(repeats: u32, work: &mut impl FnMut() -> usize) -> f64 {
+pub fn time(repeats: u32, mut work: impl FnMut() -> usize) -> f64 {
     let start = Instant::now();
     for _ in 0..repeats {
         black_box(work());
@@ -24,20 +24,15 @@ fn spread(mut times: Vec<f64>) -> (f64, f64, f64) {
     )
 }
 
-/// Times both ways in turn, after one run of each that does not count, and prints the median of each with the least and the
-/// greatest, and the ratio of the medians.
-pub fn compare(
-    name: &str,
-    repeats: u32,
-    mut ours: impl FnMut() -> usize,
-    mut theirs: impl FnMut() -> usize,
-) {
-    time(repeats, &mut ours);
-    time(repeats, &mut theirs);
+/// Runs both ways in turn, each of which answers its time, after one run of each that does not count, and prints the median of each
+/// with the least and the greatest, and the ratio of the medians.
+pub fn compare(name: &str, mut ours: impl FnMut() -> f64, mut theirs: impl FnMut() -> f64) {
+    ours();
+    theirs();
     let mut times = (Vec::new(), Vec::new());
     for _ in 0..RUNS {
-        times.0.push(time(repeats, &mut ours));
-        times.1.push(time(repeats, &mut theirs));
+        times.0.push(ours());
+        times.1.push(theirs());
     }
     let (ours, theirs) = (spread(times.0), spread(times.1));
     for (who, (least, median, most)) in [("ours", ours), ("theirs", theirs)] {

@@ -45,21 +45,38 @@ The built-in example file M has 160 bytes. Judged whole, and with one byte chang
 M: accepted: version 6, 1 range cell of 1 Doppler bin, no quality, data at 124, 2 blocks: FILL, XTRA
 M with extent 2 = 107 in place of 108: refused 4: extents disagree (header), place 12
 M with section size 19 in place of 20: refused 9: block head cut (section), block 2, place 116
-M is loaded into a working file, its field 4 is set to 60, and row 1 of cell 1 is stored:
+M is loaded into a working file with room for 200 bytes. Then, one call after the other: it is to be raised, field 4 set to 60,
+row 1 of cell 1 stored, a ZONE and a NOTE put behind its blocks, block 2 given two bytes more, block 1 other numbers, and block 4
+taken out:
 load: accepted
+raise: refused 35: nothing to raise (call), block 0, place 0
 set: accepted
 store: accepted
-A damaged copy is loaded over it, field 11 is set, and row 7 of cell 1 is stored:
+add: accepted
+carry: accepted
+lengthen: accepted
+replace: accepted
+remove: accepted
+A damaged copy is loaded over it, and everything else is asked for once more, with what is refused:
 load: refused 4: extents disagree (header), block 0, place 12
+raise: refused 35: nothing to raise (call), block 0, place 0
 set: refused 21: steering field (call), block 0, place 0
 store: refused 16: no such cell or row (call), block 0, place 0
-What readers of all levels find then:
-level 1: data at 124, field 4 refused 20: level too low (call), block 0, place 0
-level 2: data at 124, field 4 refused 20: level too low (call), block 0, place 0
-level 3: data at 124, field 4 refused 20: level too low (call), block 0, place 0
-level 4: data at 124, field 4 nCoverMinutes: 60
-level 5: data at 124, field 4 nCoverMinutes: 60
-level 6: data at 124, field 4 nCoverMinutes: 60
+add: refused 15: text unfit (call), block 0, place 1
+carry: refused 32: capacity (call), block 0, place 201
+lengthen: refused 34: no such block (call), block 0, place 0
+replace: refused 12: key (block), block 3, place 126
+remove: refused 34: no such block (call), block 0, place 0
+What readers of all levels find then in its 174 bytes:
+level 1: data at 138, field 4 refused 20: level too low (call), block 0, place 0
+level 2: data at 138, field 4 refused 20: level too low (call), block 0, place 0
+level 3: data at 138, field 4 refused 20: level too low (call), block 0, place 0
+level 4: data at 138, field 4 nCoverMinutes: 60
+level 5: data at 138, field 4 nCoverMinutes: 60
+level 6: data at 138, field 4 nCoverMinutes: 60
+block 1 FILL at 104, size 4: range_method 1, range_multiple 2, doppler_method 2, doppler_multiple 8
+block 2 XTRA at 116, size 2: unknown kind
+block 3 ZONE at 126, size 4: "GMT"
 END
 complains ''
 

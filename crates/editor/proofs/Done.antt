@@ -1,6 +1,6 @@
 -- What each call leaves in the buffer.
 use Rattle.std.proofs.Common.{◌≡◌, ℕ, ◌+◌, ◌-◌, ◌^◌, ◌<◌, ◌≤◌, max, leb, List, ◌++◌, length, take, drop, replicate, Ok, Err, Result, IfOk, IsOk, sym, refl, ap, ◌∙◌, subst, arith, rules}
-use Rattle.std.proofs.lemmas.Bool.{le-leb, lt-leb}
+use Rattle.std.proofs.lemmas.Bool.{le-leb, lt-leb, leb-true}
 use Rattle.std.proofs.lemmas.Bool.Decides.{nat_tests}
 use Rattle.std.proofs.lemmas.List.{same_lists, length-replicate, take_at, drop-drop, places, length-append, length-take-le}
 use Rattle.std.proofs.Math.Seq.{drop-append-add}
@@ -21,11 +21,11 @@ use Rattle.format.proofs.Writing.{writing_changes, header_long}
 use Rattle.reader.specs.Answers.{row_in, row_span}
 use Rattle.reader.specs.Laws.{ReadFile}
 use Rattle.reader.specs.Levels.{held}
-use Rattle.reader.proofs.Asked.{then_ok}
+use Rattle.reader.proofs.Asked.{then_ok, unless_ok}
 use Rattle.reader.proofs.Written.{field_total, within_count}
 use Rattle.editor.specs.Edits.{set, store, set_conditions, store_conditions, with_row, edited, set_place, store_place}
 use Rattle.editor.specs.Calls.{State, state, capacity, file, end, Call, load, edit, wanted, room_for, outcome, with_file, settled, answer, after}
-use Rattle.editor.proofs.Held.{Holding, ok_is, not_both, with_ok, holding_of, file_content_is, end_is, size_is}
+use Rattle.editor.proofs.Held.{Holding, same_ok, ok_is, not_both, with_ok, holding_of, file_content_is, end_is, size_is}
 use Rattle.editor.proofs.Places.{stored_at}
 use Rattle.editor.proofs.Sounds.{storable, row_among, Settable, settable, wide, written-length}
 
@@ -64,6 +64,28 @@ accepted_leaves call s d e w =
     by : (c : Check) → Ok tt ≡ passed (c then Ok d) → settled s (c then Ok d) ≡ settled s (Ok d)
     by (Ok u) e = refl
     by (Err g) e = absurd (not_both tt g (sym e))
+
+-- what an accepted call wanted, and that there was room for it
+pub fits : (most : ℕ) (r : Result Content Fault) (d : Content) → (r with λ c. room_for most c then Ok c) ≡ Ok d → (r ≡ Ok d) × (length (write d) ≤ most)
+fits most r d e =
+    let w = with_ok r (λ c. room_for most c then Ok c) d e in
+    let c = w.0 in
+    let q = then_ok (room_for most c) (Ok c) d w.2 in
+    let room : length (write c) ≤ most = leb-true _ _ (unless_ok _ _ q.0) in
+    let is : c ≡ d = same_ok c d q.1 in
+    (w.1 ∙ ap Ok is, subst (λ (x : Content). length (write x) ≤ most) is room)
+
+passed_ok : {X : Type 0} (r : Result X Fault) → passed r ≡ Ok tt → (x : X) × (r ≡ Ok x)
+passed_ok (Ok x) e = (x, refl)
+passed_ok (Err f) e = absurd (not_both tt f e)
+
+pub accepted_with : (call : Call) (s : State) → answer call s ≡ Ok tt
+    → (d : Content) × (wanted call s ≡ Ok d) × (length (write d) ≤ capacity s.buffer) × (after call s ≡ settled s (Ok d))
+unfolding answer after
+accepted_with call s e =
+    let d = passed_ok (outcome call s) e in
+    let f = fits (capacity s.buffer) (wanted call s) d.0 d.1 in
+    (d.0, f.0, f.1, ap (settled s) d.1)
 
 -- a call that is refused by its last condition
 pub over_capacity : (call : Call) (s : State) (d : Content) (n : ℕ) → wanted call s ≡ Ok d → length (write d) ≡ n → capacity s.buffer < n

@@ -33,6 +33,9 @@ pub with_ok : {X Y : Type 0} (r : Result X Fault) (f : X → Result Y Fault) (y 
 with_ok (Ok x) f y e = (x, refl, e)
 with_ok (Err g) f y e = absurd (not_both y g e)
 
+pub same_ok : {X : Type 0} (x y : X) → ◌≡◌ {A = Result X Fault} (Ok x) (Ok y) → x ≡ y
+same_ok x y e = cc
+
 pub ok_is : {X : Type 0} (r : Result X Fault) → is_ok r ≡ true → (x : X) × (r ≡ Ok x)
 ok_is (Ok x) e = (x, refl)
 ok_is (Err f) e = let z : ◌≡◌ {A = ℕ} 0 1 = cc in absurd (omega arith)

@@ -1,6 +1,6 @@
 -- The readers' law.
-use Rattle.std.proofs.Common.{◌≡◌, ℕ, zero, suc, ◌-◌, ◌<◌, ◌≤◌, leb, List, [], ◌∷◌, length, Some, Ok, Err, Result, sym, refl, ap, ◌∙◌, subst, arith}
-use Rattle.std.proofs.lemmas.Bool.{leb-true, le-leb, cond-true}
+use Rattle.std.proofs.Common.{◌≡◌, ℕ, ◌+◌, min, ◌-◌, ◌≤◌, leb, List, [], length, Some, Ok, Err, Result, sym, refl, ap, ◌∙◌, subst, arith}
+use Rattle.std.proofs.lemmas.Bool.{le-leb, cond-true}
 use Rattle.std.proofs.lemmas.Option.{slice_get_within}
 use Rattle.std.specs.List.{slice_get}
 use Rattle.buffers.specs.Words.{Bytes}
@@ -14,30 +14,21 @@ use Rattle.format.specs.Judging.{judged}
 use Rattle.kinds.specs.Kind.{KindSpec, Keeps}
 use Rattle.reader.specs.Laws.{ReadFile}
 use Rattle.reader.specs.Levels.{held}
-use Rattle.reader.proofs.Asked.{then_ok, unless_ok}
 use Rattle.reader.proofs.Written.{sound_file}
-use Rattle.editor.specs.Edits.{Edit, edited}
+use Rattle.editor.specs.Edits.{Edit, add, replace, edited}
 use Rattle.editor.specs.Calls.{State, state, capacity, file, if_held, made, Call, load, edit, wanted, room_for, outcome, settled, answer, after}
 use Rattle.editor.specs.Ledger.{Page, Ledger, blank, page, opened, opened_if, begun, unused, noted, taken, entered}
-use Rattle.editor.specs.Law.{Event, Given, Run, stop, call, ask, ledger, Shows, Marked, Law}
+use Rattle.editor.specs.Law.{Event, Given, Run, stop, call, ask, ledger, Shows, ShowsGiven, Marked, Law}
 use Rattle.editor.proofs.Agrees.{Agrees, opens}
-use Rattle.editor.proofs.Held.{Holding, not_both, with_ok, judged_held, refused_none, content_is, file_content_is, holding_of, settled_holds}
-use Rattle.editor.proofs.Kept.{Follows, edit_keeps}
-use Rattle.editor.proofs.Looks.{Showing, showing_of, shows_of}
+use Rattle.editor.proofs.Done.{fits, accepted_with}
+use Rattle.editor.proofs.Held.{Holding, same_ok, not_both, with_ok, judged_held, refused_none, layout_is, content_is, file_content_is, holding_of, settled_holds}
+use Rattle.editor.proofs.Keeping.{Follows}
+use Rattle.editor.proofs.Kept.{edit_keeps}
+use Rattle.editor.proofs.Lists.{there_is}
+use Rattle.editor.proofs.Looks.{Showing, showing_of, shows_of, read_holding}
 use Rattle.editor.proofs.Marks.{beside_at, beside_one, below_at, new_beside}
+use Rattle.editor.proofs.ShowsGiven.{add_shows, replace_shows}
 use Rattle.editor.proofs.Telling.{Both, not_page, tells}
-
-same_ok : {X : Type 0} (x y : X) → ◌≡◌ {A = Result X Fault} (Ok x) (Ok y) → x ≡ y
-same_ok x y e = cc
-
-fits : (most : ℕ) (r : Result Content Fault) (d : Content) → (r with λ c. room_for most c then Ok c) ≡ Ok d → (r ≡ Ok d) × (length (write d) ≤ most)
-fits most r d e =
-    let w = with_ok r (λ c. room_for most c then Ok c) d e in
-    let c = w.0 in
-    let q = then_ok (room_for most c) (Ok c) d w.2 in
-    let room : length (write c) ≤ most = leb-true _ _ (unless_ok _ _ q.0) in
-    let is : c ≡ d = same_ok c d q.1 in
-    (w.1 ∙ ap Ok is, subst (λ (x : Content). length (write x) ≤ most) is room)
 
 -- a file and a page that agree, and the block that has the mark m shows that
 abbrev Tracked : KindSpec → List ℕ → List ℕ → ℕ → Ledger → State → Type 0
@@ -105,18 +96,18 @@ moved blank s (edit e) d b o given = absurd (no_edit s e d b o)
 moved (page p) s (edit e) d b o given = moved_edit p s e b.0 d b.1 b.2 o given
 
 -- one call
-stepped : (l : Ledger) (s : State) (k : Call) (r : Result Content Fault) → outcome k s ≡ r → Given k → Both l s → Both (entered l k (passed r)) (settled s r)
+stepped : (l : Ledger) (s : State) (k : Call) (r : Result Content Fault) → outcome k s ≡ r → (passed r ≡ Ok tt → Given k) → Both l s → Both (entered l k (passed r)) (settled s r)
 stepped l s k (Err f) o given b = b
 stepped l s k (Ok d) o given b =
-    let m = moved l s k d b o given in
+    let m = moved l s k d b o (given refl) in
     subst (λ (x : Ledger). Both x (settled s (Ok d))) (sym m.entered) (d, m.holding, m.agrees)
 
 module _ (kind : KindSpec) (keeps : Keeps kind) (numbers text : List ℕ) (m : ℕ) where
-  tracked : (l : Ledger) (s : State) (k : Call) (r : Result Content Fault) → outcome k s ≡ r → Given k → Both l s → Tracked kind numbers text m l s
+  tracked : (l : Ledger) (s : State) (k : Call) (r : Result Content Fault) → outcome k s ≡ r → (passed r ≡ Ok tt → Given k) → Both l s → Tracked kind numbers text m l s
       → Tracked kind numbers text m (entered l k (passed r)) (settled s r)
   tracked l s k (Err f) o given b t = t
   tracked l s k (Ok d) o given b t =
-      let v = moved l s k d b o given in
+      let v = moved l s k d b o (given refl) in
       subst (λ (x : Ledger). Tracked kind numbers text m x (settled s (Ok d))) (sym v.entered) (d, v.holding, v.agrees, v.follows kind keeps numbers text m t)
 
 -- a run
@@ -134,12 +125,6 @@ run_tracked kind keeps numbers text m l {s} b t (call c given r) =
     run_tracked kind keeps numbers text m (entered l c (answer c s)) (stepped l s c (outcome c s) refl given b)
     (tracked kind keeps numbers text m l s c (outcome c s) refl given b t) r
 run_tracked kind keeps numbers text m l b t (ask r) = run_tracked kind keeps numbers text m l b t r
-
--- from the block that is marked to the marks, and back
-there_is : {B : Type 0} (bs : List B) (i : ℕ) → i < length bs → (x : B) × (slice_get bs i ≡ Some x)
-there_is [] i h = absurd (omega arith)
-there_is (b ∷ bs) zero h = (b, refl)
-there_is (b ∷ bs) (suc i) h = there_is bs i (omega arith)
 
 same_page : (p q : Page) → page p ≡ page q → p ≡ q
 same_page p q e = cc
@@ -174,6 +159,36 @@ module _ (kind : KindSpec) (keeps : Keeps kind) (numbers text : List ℕ) (m : �
       let x = beside_at (λ n y. n ≡ m → Showing kind numbers text y) q.marks c.blocks (j - 1) m f.beside mine in
       shows_of kind keeps s c h j x.0 numbers text from x.1 (x.2 refl)
 
+within_most : (n m : ℕ) → n ≤ min m 1073741824 → n ≤ 1073741824
+within_most n m h = omega arith
+
+-- a block that was just added, or replaced
+edit_given : (l : Ledger) (s : State) (e : Edit) → Both l s → Given (edit e) → answer (edit e) s ≡ Ok tt
+    → (p : Page) × (c : Content) × (d : Content) × Holding s c × Agrees p c × (edited e c ≡ Ok d) × Holding (settled s (Ok d)) d × (after (edit e) s ≡ settled s (Ok d))
+edit_given blank s e b given a =
+    let w = accepted_with (edit e) s a in
+    absurd (not_both w.0 (fault NoFile 0) (ap (λ (r : Result Layout Fault). (r with λ l. Ok (content (file s))) with edited e) (sym b) ∙ w.1))
+edit_given (page p) s e (c, h, g) given a =
+    let w = accepted_with (edit e) s a in
+    let d = w.0 in
+    let made : edited e c ≡ Ok d = ap (λ (r : Result Content Fault). r with edited e) (sym (file_content_is s c h)) ∙ w.1 in
+    let k = edit_keeps e p c d h.sound given (within_most (length (write d)) (length s.buffer) w.2) g made in
+    (p, c, d, h, g, made, settled_holds s d k.sound w.2, w.3)
+
+shows_given : (l : Ledger) (s : State) → Both l s → ShowsGiven s
+shows_given l s b =
+    record {
+      added = λ kind keeps numbers text n given a count.
+          let (p, c, d, h, g, made, holds, is) = edit_given l s (add kind numbers text) b given a in
+          let r = read_holding s c h (layout_is s c h).0 (layout_is s c h).1 in
+          let all : n ≡ length c.blocks =
+          same_ok n _ (sym count ∙ ap (λ (y : Result Layout Fault). y with λ k. Ok k.blocks) (layout_is s c h).1) ∙ r.blocks_are in
+          subst (λ (t : State). Shows kind t (n + 1) numbers text) (sym is) (add_shows kind keeps numbers text n s c d h made all holds);
+      replaced = λ kind keeps k numbers text given a.
+          let (p, c, d, h, g, made, holds, is) = edit_given l s (replace k kind numbers text) b given a in
+          subst (λ (t : State). Shows kind t k numbers text) (sym is) (replace_shows kind keeps k numbers text s c d h made holds);
+    }
+
 pub law_from : (l : Ledger) (s : State) → Both l s → Law l s
 law_from l s b =
     record {
@@ -182,6 +197,7 @@ law_from l s b =
           let at = run_both l b r in
           let track = starts kind keeps numbers text m (ledger l es) t i at marked shows in
           ends kind keeps numbers text m (ledger (ledger l es) fs) u j (run_tracked kind keeps numbers text m (ledger l es) at track q) later;
+      given = λ es t r. shows_given (ledger l es) t (run_both l b r);
     }
 
 -- the making

@@ -1,6 +1,6 @@
 -- The readers' law: whatever is called on a working file, what is read of it is what the ledger of the calls says.
-use Rattle.std.specs.Prelude.{◌≡◌, ℕ, ◌-◌, ◌/◌, ◌^◌, ◌<◌, ◌≤◌, List, [], ◌∷◌, length, Some, Ok}
-use Rattle.std.specs.List.{slice_get}
+use Rattle.std.specs.Prelude.{◌≡◌, ℕ, ◌+◌, ◌-◌, ◌/◌, ◌^◌, ◌<◌, ◌≤◌, List, [], ◌∷◌, length, Some, Ok}
+use Rattle.std.specs.List.{AllByRecursion, slice_get}
 use Rattle.buffers.specs.Words.{Bytes}
 use Rattle.format.specs.declared.judging.Layout.{Layout}
 use Rattle.format.specs.Checks.{Check, ◌with◌}
@@ -9,7 +9,8 @@ use Rattle.kinds.specs.Kind.{KindSpec, Keeps}
 use Rattle.reader.specs.Answers.{Sight, part, numbers_in, version_answer, field_answer, row_part, numbers_answer, numbers_list, look_answer}
 use Rattle.reader.specs.Laws.{AgreedFile, ReadFile}
 use Rattle.reader.specs.Levels.{held, enough_room}
-use Rattle.editor.specs.Edits.{set, store}
+use Rattle.editor.specs.Blocks.{BytesWritten}
+use Rattle.editor.specs.Edits.{set, store, add, carry, lengthen, replace, remove, raise}
 use Rattle.editor.specs.Calls.{State, Call, load, edit, capacity, file, answer, after}
 use Rattle.editor.specs.Ledger.{Page, Ledger, page, entered, told_version, told_count, told_field, told_row}
 
@@ -18,16 +19,22 @@ pub data Event : Type 0 where
   called : Call → Check → Event
   asked : Event
 
--- the arguments of a call are bytes and 32-bit numbers
+-- the arguments of a call are bytes and 32-bit numbers, and a key is four bytes
 abbrev pub Given : Call → Type 0
 Given (load bytes) = Bytes bytes
 Given (edit (set n x)) = x < 2 ^ 32
 Given (edit (store cell row bytes)) = Bytes bytes
+Given (edit (add kind numbers text)) = (length kind.key ≡ 4) × Bytes kind.key × BytesWritten kind numbers text
+Given (edit (carry key body)) = (length key ≡ 4) × Bytes key × Bytes body
+Given (edit (lengthen k more)) = Bytes more
+Given (edit (replace k kind numbers text)) = BytesWritten kind numbers text
+Given (edit (remove k)) = Unit {0}
+Given (edit (raise xs)) = AllByRecursion (λ x. x < 2 ^ 32) xs
 
 -- a run of calls, refused ones too, and of questions, which change nothing
 pub data Run : State → List Event → State → Type 0 where
   stop : {s : State} → Run s [] s
-  call : {s t : State} {es : List Event} → (c : Call) → Given c → Run (after c s) es t → Run s (called c (answer c s) ∷ es) t
+  call : {s t : State} {es : List Event} → (c : Call) → (answer c s ≡ Ok tt → Given c) → Run (after c s) es t → Run s (called c (answer c s) ∷ es) t
   ask : {s t : State} {es : List Event} → Run s es t → Run s (asked ∷ es) t
 
 -- the ledger after the events
@@ -89,7 +96,16 @@ Lasts l s later t =
     (kind : KindSpec) → Keeps kind → (i j m : ℕ) (numbers text : List ℕ)
     → Marked l i m → Shows kind s i numbers text → Marked later j m → Shows kind t j numbers text
 
+-- after an accepted add the last block shows the numbers and the text given, and after an accepted replace that block does
+pub record ShowsGiven (s : State) : Type 0 where
+  pub added : (kind : KindSpec) → Keeps kind → (numbers text : List ℕ) (n : ℕ) → Given (edit (add kind numbers text))
+      → answer (edit (add kind numbers text)) s ≡ Ok tt → (held (file s) with λ k. Ok k.blocks) ≡ Ok n
+      → Shows kind (after (edit (add kind numbers text)) s) (n + 1) numbers text
+  pub replaced : (kind : KindSpec) → Keeps kind → (k : ℕ) (numbers text : List ℕ) → Given (edit (replace k kind numbers text))
+      → answer (edit (replace k kind numbers text)) s ≡ Ok tt → Shows kind (after (edit (replace k kind numbers text)) s) k numbers text
+
 -- of every run from the state s on, with the ledger l at its begin
 pub record Law (l : Ledger) (s : State) : Type 0 where
   pub tells : (es : List Event) (t : State) → Run s es t → Told (ledger l es) t
   pub lasts : (es fs : List Event) (t u : State) → Run s es t → Run t fs u → Lasts (ledger l es) t (ledger (ledger l es) fs) u
+  pub given : (es : List Event) (t : State) → Run s es t → ShowsGiven t

@@ -2,8 +2,11 @@
 #![tactic(auto)]
 
 mod amending;
+mod blocks;
 mod fields;
 mod loading;
+mod patch;
+mod raising;
 mod readings;
 mod rows;
 mod working;

@@ -1,3 +1,4 @@
 pub mod Computed
+pub mod Edited
 pub mod Read
 mod Told

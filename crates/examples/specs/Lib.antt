@@ -1,3 +1,4 @@
+pub mod Editings
 pub mod FileM
 pub mod Readings
 pub mod Refused

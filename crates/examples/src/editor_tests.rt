@@ -1,40 +1,13 @@
 //! The working file: each call's answers, and every byte of the buffer behind it.
 use crate::refusals::{Told, refused};
+use crate::working::{at, buffer_with_m, small_file};
 use crate::{example_file, example_with_extent, example_with_section};
 use editor::WorkingFile;
-use reader::{Entry, RowAt};
+use reader::Entry;
 use records::{Fill, Loca};
 use std::test::Fail;
 
 const NO_FILE: Told = Some((31, 5, 0, 0));
-
-/// A version 4 file of one cell of one bin without quality: 72 bytes of header, 36 of data.
-fn small_file() -> [u8; 108] {
-    let mut bytes = [0u8; 108];
-    bytes[1] = 4;
-    bytes[9] = 62;
-    bytes[11] = 1;
-    bytes[15] = 56;
-    bytes[23] = 48;
-    bytes[55] = 1;
-    bytes[59] = 1;
-    for (place, byte) in bytes.iter_mut().enumerate().skip(72) {
-        *byte = (place % 256) as u8;
-    }
-    bytes
-}
-
-/// A buffer of 200 bytes that begins with file M, and has 255 behind it.
-fn buffer_with_m() -> [u8; 200] {
-    let mut buffer = [255u8; 200];
-    buffer[..160].copy_from_slice(&example_file());
-    buffer
-}
-
-/// The row of a cell, asked for by a reader of that level.
-fn at(level: usize, cell: usize, row: usize) -> RowAt {
-    RowAt { level, cell, row }
-}
 
 #[test]
 fn making_holds_a_file_or_none(rt: HostRuntime) {

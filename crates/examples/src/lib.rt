@@ -2,6 +2,7 @@
 #![tactic(auto)]
 
 ghost use Rattle.std.specs.Prelude.{◌≡◌, ◌<◌, set};
+ghost use Rattle.examples.specs.Editings.{Editings};
 ghost use Rattle.examples.specs.FileM.{file_m, put32};
 ghost use Rattle.examples.specs.Readings.{Readings};
 ghost use Rattle.examples.specs.Worked.{Worked};
@@ -29,6 +30,7 @@ pub fn example_file() -> [u8; 160]
     ensures bytes { result ≡ file_m }
     ensures worked { Worked }
     ensures readings { Readings }
+    ensures editings { Editings }
 {
     bytes_of_m()
 }
@@ -58,6 +60,8 @@ pub fn example_with_section() -> [u8; 160]
 }
 
 #[cfg(test)]
+mod edit_tests;
+#[cfg(test)]
 mod editor_tests;
 #[cfg(test)]
 mod kind_tests;
@@ -67,3 +71,5 @@ mod reader_tests;
 mod refusals;
 #[cfg(test)]
 mod tests;
+#[cfg(test)]
+mod working;

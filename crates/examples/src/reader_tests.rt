@@ -1,15 +1,11 @@
 //! Reading at a level: each answer and each refusal of the judged file, on M and on files of early versions.
 use crate::example_file;
 use crate::refusals::refused;
-use reader::{Entry, JudgedFile, RowAt};
+use crate::working::at;
+use reader::{Entry, JudgedFile};
 use records::{Fill, Loca};
 use std::test::Fail;
 use texts::Zone;
-
-/// The row of a cell, asked for by a reader of that level.
-fn at(level: usize, cell: usize, row: usize) -> RowAt {
-    RowAt { level, cell, row }
-}
 
 /// A version 4 file of two cells of one bin with quality, data at 80, and a gap of eight bytes before them.
 fn early_file() -> [u8; 160] {

@@ -1,21 +1,11 @@
 //! The ten checks of judging, each at both sides of its edge, the versions and kinds, and the moves in a buffer.
 use crate::example_file;
 use crate::refusals::{Told, refused};
+use crate::working::{EXTENTS, put};
 use buffers::{shift_down, shift_up, write_bytes, write_word, zero_bytes};
 use format::judge;
 use std::alloc::{AllocError, Global};
 use std::test::Fail;
-
-/// The places of extents 1 to 5, and where each of them ends.
-const EXTENTS: [(usize, u32); 5] = [(6, 10), (12, 16), (20, 24), (68, 72), (96, 100)];
-
-/// Puts the bytes of a number at a place, where they fit.
-// By its own means, and not by the moves of `buffers`, which the tests of this file try.
-fn put<const N: usize>(bytes: &mut [u8], at: usize, number: [u8; N]) {
-    if bytes.len() >= N && at <= bytes.len() - N {
-        bytes[at..at + N].copy_from_slice(&number);
-    }
-}
 
 /// A file of that version, kind 1 and size, whose data begin at `start`: one cell of one bin, where the header says
 /// so, and three channels.

@@ -1,6 +1,8 @@
 //! What programs in C or Rust link: the library's questions under C names.
 #![tactic(auto)]
 
+mod editing;
+
 ghost use Rattle.std.specs.Prelude.{◌≡◌, length};
 ghost use Rattle.std.specs.Result.{result_unwrap_or};
 ghost use Rattle.exports.specs.Rows.{copy_answer, copy_list};

@@ -1,5 +1,5 @@
 //! What texts that end before a zero share.
-ghost use Rattle.std.specs.Prelude.{◌≡◌, ◌+◌, ◌<◌, length, take, IfOk};
+ghost use Rattle.std.specs.Prelude.{◌≡◌, ◌+◌, ◌<◌, ◌≤◌, length, take, IfOk};
 ghost use Rattle.kinds.specs.Ended.{before_zero, ended_length, front as front_of, closed, limited};
 ghost use Rattle.kinds.specs.Kind.{measured, put_answer, put_buffer};
 
@@ -42,9 +42,10 @@ pub fn read_text(bytes: &[u8], most: Option<usize>) -> Result<usize, Fault>
     ended_length(front)
 }
 
-/// The length of a text with its zero; refuses 15 for a zero in it, at the first.
+/// The length of a text with its zero, one byte more; refuses 15 for a zero in it, at the first.
 fn measure_closed(text: &[u8]) -> Result<usize, Fault>
-    ensures { result ≡ measured (closed text.now) }
+    ensures exact { result ≡ measured (closed text.now) }
+    ensures short { IfOk result (λ n. n ≤ length text.now + 1) }
 {
     let plain = first_zero(text);
     if plain < text.len() {
@@ -54,9 +55,10 @@ fn measure_closed(text: &[u8]) -> Result<usize, Fault>
 }
 
 /// The length of a text with its zero; refuses 15 for a text of more bytes than it may have, at the most of them, then for
-/// one with a zero in it, at the first.
+/// one with a zero in it, at the first. It is at most one byte more than the text.
 pub fn measure_text(text: &[u8], most: Option<usize>) -> Result<usize, Fault>
-    ensures { result ≡ measured (limited most text.now) }
+    ensures exact { result ≡ measured (limited most text.now) }
+    ensures short { IfOk result (λ n. n ≤ length text.now + 1) }
 {
     match most {
         Some(most) if text.len() > most => Err(Fault::at(Refusal::TextUnfit, most)),

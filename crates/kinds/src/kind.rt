@@ -1,5 +1,5 @@
 //! The trait that every kind of block implements.
-ghost use Rattle.std.specs.Prelude.{◌≡◌, ℕ, List, length};
+ghost use Rattle.std.specs.Prelude.{◌≡◌, ◌≤◌, ℕ, List, length, IfOk};
 ghost use Rattle.std.specs.Str.{bytes_eq};
 ghost use Rattle.kinds.specs.Kind.{KindSpec, Keeps, EveryKindReturns, Says, measured, put_answer, put_buffer};
 
@@ -35,9 +35,11 @@ pub trait Kind {
     fn read(bytes: &[u8]) -> Result<Reading<Self::Record>, Fault>
         ensures { Says numbers (kind.reads bytes.now) result };
 
-    /// The length of record and text when they are written; refuses 15 for a text that cannot be written.
+    /// The length of record and text when they are written; refuses 15 for a text that cannot be written. What is written
+    /// has at most 2^63 bytes, so that sums with it fit.
     fn measure(value: Self::Record, text: &[u8]) -> Result<usize, Fault>
-        ensures { result ≡ measured (kind.writes (numbers value) text.now) };
+        ensures answer { result ≡ measured (kind.writes (numbers value) text.now) }
+        ensures short { IfOk result (λ n. n ≤ 9223372036854775808) };
 
     /// Writes record and text to the start of `out` and answers their length; refuses 15 as `measure` does, then 22,
     /// with the bytes wanted, where `out` is too short. Refusing, it writes nothing.

@@ -1,6 +1,6 @@
 //! Packed records: numbers of fixed widths, one behind the other, and no text. A record says which numbers it has, and how
 //! they stand in bytes; here each is read, measured and written as a kind.
-ghost use Rattle.std.specs.Prelude.{◌≡◌, ℕ, true, List, length, if◌then◌else◌, nat_le};
+ghost use Rattle.std.specs.Prelude.{◌≡◌, ◌≤◌, ℕ, true, List, length, IfOk, if◌then◌else◌, nat_le};
 ghost use Rattle.kinds.specs.Kind.{KindSpec, Keeps};
 ghost use Rattle.kinds.specs.Packed.{Part, total, values, fit, filled, long_enough, textless, record_kind};
 
@@ -27,10 +27,11 @@ pub trait Packed: Copy {
     fn unpack(bytes: &[u8]) -> Self
         ensures { numbers result ≡ values parts bytes.now 0 };
 
-    /// How many bytes the numbers have, each of which fits its part.
+    /// How many bytes the numbers have, each of which fits its part: at most 4096.
     fn size(self) -> usize
         ensures exact { result ≡ total parts }
-        ensures fits { fit parts (numbers self) ≡ true };
+        ensures fits { fit parts (numbers self) ≡ true }
+        ensures short { result ≤ 4096 };
 
     // A bool, as the moves of a buffer answer: written or not, with no value beside it.
 
@@ -56,9 +57,10 @@ pub fn check_record(bytes: &[u8], size: usize) -> Result<(), Fault>
     Ok(())
 }
 
-/// The size of a record, which takes no text; refuses 15 for any.
+/// The size of a record, which takes no text; refuses 15 for any. What it answers is the size that it was given.
 pub fn measure_record(size: usize, text: &[u8]) -> Result<usize, Fault>
-    ensures { result ≡ textless size text.now }
+    ensures exact { result ≡ textless size text.now }
+    ensures short { IfOk result (λ n. n ≡ size) }
 {
     if !text.is_empty() {
         return Err(Fault::at(Refusal::TextUnfit, 0));

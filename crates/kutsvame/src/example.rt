@@ -1,11 +1,15 @@
 //! What the program does with no words: the built-in example file is judged, and amended as a working file.
+use crate::blocks_shown::show_blocks;
 use crate::judge::judge_bytes;
+use crate::words::LEVEL;
 use editor::{Amended, Amendment, amend};
 use examples::{example_file, example_with_extent, example_with_section};
 use faults::Fault;
 use printed::{FieldLine, Refused};
 use reader::JudgedFile;
+use records::Fill;
 use std::{fmt, io};
+use texts::Zone;
 
 /// Judges file M, M with extent 2 one too small, and M with its section one byte too short.
 fn judge_example(rt: &HostRuntime) -> io::Result<()> {
@@ -46,8 +50,14 @@ impl fmt::Display for Outcome<'_> {
 /// Prints what the calls of an amendment answered; how many bytes the file has then.
 fn print_amended(rt: &HostRuntime, amended: Amended) -> io::Result<usize> {
     rt.println(Outcome("load", amended.loaded))?;
+    rt.println(Outcome("raise", amended.raised))?;
     rt.println(Outcome("set", amended.changed))?;
     rt.println(Outcome("store", amended.stored))?;
+    rt.println(Outcome("add", amended.added))?;
+    rt.println(Outcome("carry", amended.carried))?;
+    rt.println(Outcome("lengthen", amended.lengthened))?;
+    rt.println(Outcome("replace", amended.replaced))?;
+    rt.println(Outcome("remove", amended.removed))?;
     Ok(amended.size)
 }
 
@@ -70,35 +80,82 @@ fn print_levels(rt: &HostRuntime, file: &JudgedFile) -> io::Result<()> {
     Ok(())
 }
 
-/// Amends file M, then asks for what is refused, and prints what readers of all levels find.
-fn amend_example(rt: &HostRuntime) -> io::Result<()> {
-    let mut buffer = [0u8; 200];
-    rt.println(
-        "M is loaded into a working file, its field 4 is set to 60, and row 1 of cell 1 is stored:",
-    )?;
-    let first = Amendment {
+/// Amends file M: every edit of a file of the newest version is accepted, and a raise is not.
+fn amend_first(buffer: &mut [u8]) -> Amended {
+    let by = Amendment {
         file: &example_file(),
+        values: &[],
         field: 4,
         value: 60,
         cell: 1,
         row: 1,
         bytes: b"\x3F\x80\0\0",
+        added: b"GMT",
+        key: *b"NOTE",
+        body: b"ebb",
+        longer: 2,
+        more: &[0, 1],
+        other: 1,
+        replaced: &[],
+        less: 4,
     };
-    let size = print_amended(rt, amend(&mut buffer, 0, &first))?;
-    rt.println(
-        "A damaged copy is loaded over it, field 11 is set, and row 7 of cell 1 is stored:",
-    )?;
-    let second = Amendment {
+    amend::<Zone, Fill>(buffer, 0, &by, (), fill(8))
+}
+
+/// Asks for what is refused.
+fn amend_again(buffer: &mut [u8], size: usize) -> Amended {
+    let by = Amendment {
         file: &example_with_extent(),
+        values: &[],
         field: 11,
         value: 2,
         cell: 1,
         row: 7,
         bytes: b"\x3F\x80\0\0",
+        added: b"G\0T",
+        key: *b"NOTE",
+        body: &[0; 19],
+        longer: 4,
+        more: &[0, 1],
+        other: 3,
+        replaced: &[],
+        less: 0,
     };
-    let size = print_amended(rt, amend(&mut buffer, size, &second))?;
-    rt.println("What readers of all levels find then:")?;
-    print_levels(rt, &JudgedFile::of(buffer.get(..size).unwrap_or(&[])))
+    amend::<Zone, Fill>(buffer, size, &by, (), fill(16))
+}
+
+/// The numbers of a FILL block: range cells doubled by the linear method, Doppler bins multiplied by padding.
+fn fill(doppler_multiple: u8) -> Fill {
+    Fill {
+        range_method: 1,
+        range_multiple: 2,
+        doppler_method: 2,
+        doppler_multiple,
+    }
+}
+
+/// Amends file M, then asks for what is refused, and prints what readers of all levels find.
+fn amend_example(rt: &HostRuntime) -> io::Result<()> {
+    let mut buffer = [0u8; 200];
+    rt.println(
+        "M is loaded into a working file with room for 200 bytes. Then, one call after the other: it is to be raised, field 4 set to 60,",
+    )?;
+    rt.println(
+        "row 1 of cell 1 stored, a ZONE and a NOTE put behind its blocks, block 2 given two bytes more, block 1 other numbers, and block 4",
+    )?;
+    rt.println("taken out:")?;
+    let size = print_amended(rt, amend_first(&mut buffer))?;
+    rt.println(
+        "A damaged copy is loaded over it, and everything else is asked for once more, with what is refused:",
+    )?;
+    let size = print_amended(rt, amend_again(&mut buffer, size))?;
+    println!(rt; "What readers of all levels find then in its {size} bytes:")?;
+    let file = JudgedFile::of(buffer.get(..size).unwrap_or(&[]));
+    print_levels(rt, &file)?;
+    match file.layout() {
+        Ok(layout) => show_blocks(rt, &file, layout, LEVEL),
+        Err(fault) => rt.println(Refused(fault)),
+    }
 }
 
 /// Judges the example file and its damaged copies, and amends it.

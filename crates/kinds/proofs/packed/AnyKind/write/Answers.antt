@@ -12,7 +12,7 @@ returns g c =
     let out = c.args.out.now in
     let after = c.pack.new.out in
     let n = c.in_ok-size.size in
-    let e = subst (λ k. Ok n ≡ measured (k.writes xs text)) g.met.R.Packed.packs c.in_ok-size.ensures in
+    let e = subst (λ k. Ok n ≡ measured (k.writes xs text)) g.met.R.Packed.packs c.in_ok-size.ensures.answer in
     let p = record_wrote g.R.Packed.parts xs text out after n e c.pack.ensures.buffer (sym c.if-not-pack.ensures.answer) in
     let q = subst (λ k. (Ok n ≡ put_answer (k.writes xs text) (length out)) × (after ≡ put_buffer (k.writes xs text) out)) (sym g.met.R.Packed.packs) p in
     record { answer = q.0; buffer = q.1 }
@@ -24,7 +24,7 @@ returns-then-not-pack g c =
     let out = c.args.out.now in
     let after = c.pack.new.out in
     let n = c.in_ok-size.size in
-    let e = subst (λ k. Ok n ≡ measured (k.writes xs text)) g.met.R.Packed.packs c.in_ok-size.ensures in
+    let e = subst (λ k. Ok n ≡ measured (k.writes xs text)) g.met.R.Packed.packs c.in_ok-size.ensures.answer in
     let p = record_short g.R.Packed.parts xs text out after n e c.pack.ensures.buffer (sym c.if-not-pack.ensures.answer) in
     let q = subst (λ k. (Err (fault ListOrTableTooShort n) ≡ put_answer (k.writes xs text) (length out)) × (after ≡ put_buffer (k.writes xs text) out)) (sym g.met.R.Packed.packs) p in
     record { answer = ap Err c.at.ensures ∙ q.0; buffer = q.1 }

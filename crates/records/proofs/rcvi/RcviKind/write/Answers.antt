@@ -6,5 +6,5 @@ use Rattle.records.proofs.rcvi.RcviKind.write.Goals as goal
 pub returns : goal.returns
 returns c =
     let p = field_wrote rcvi_parts 31 (rcvi_numbers c.args.value) c.args.text.now c.args.out.now c.put.new.out c.in_ok-size.size
-    c.in_ok-size.ensures c.put.ensures.buffer (sym c.if-not-put.ensures.answer) in
+    c.in_ok-size.ensures.answer c.put.ensures.buffer (sym c.if-not-put.ensures.answer) in
     record { answer = p.0; buffer = p.1 }

@@ -1,0 +1,69 @@
+-- Raising a file in a buffer: what is asked of its layout, and what is written, one move after the other.
+use Rattle.std.specs.Prelude.{ℕ, ◌+◌, ◌-◌, cond, List, [], ◌∷◌, Ok, Result, ◌==◌, nat_le, nat_lt}
+use Rattle.buffers.specs.Moves.{written, shifted}
+use Rattle.buffers.specs.Words.{be, be16, be32}
+use Rattle.faults.specs.declared.fault.Fault.{Fault}
+use Rattle.faults.specs.declared.refusal.Refusal.TheVariants.{NothingToRaise, Gap, Capacity}
+use Rattle.faults.specs.Faults.{fault}
+use Rattle.format.specs.declared.judging.Layout.{Layout}
+use Rattle.format.specs.declared.sizes.Sizes.{Sizes}
+use Rattle.format.specs.Checks.{Check, unless, ◌then◌, ◌with◌, all_of}
+use Rattle.format.specs.Header.{the_field, header_end}
+use Rattle.reader.specs.Levels.{held}
+use Rattle.editor.specs.Edits.{as_long, values_wanted, values_for, level_fields}
+use Rattle.editor.specs.Calls.{State, capacity, file}
+
+-- how many bytes a file of version v gets more, and how many a file of n bytes has then
+abbrev pub grown : ℕ → ℕ → ℕ
+grown n v = n + (header_end (v + 1) - header_end v)
+
+-- what is asked of the layout of a file, in order, where m values are given
+abbrev pub layout_conditions : Layout → ℕ → List Check
+layout_conditions l m =
+    unless (nat_lt l.version 6) (fault NothingToRaise 0)
+    ∷ unless (l.start == header_end l.version) (fault Gap 0)
+    ∷ as_long (values_wanted l.version) m
+    ∷ []
+
+-- a file has room for n bytes
+abbrev pub room_for_size : State → ℕ → Check
+room_for_size s n = unless (nat_le n (capacity s.buffer)) (fault Capacity n)
+
+-- the layout of a file that can be raised with m values, and how many bytes it has then
+abbrev pub layout_to_raise : State → ℕ → Result (Layout × ℕ) Fault
+layout_to_raise s m =
+    held (file s) with λ l. all_of (layout_conditions l m) then (room_for_size s (grown s.size l.version) then Ok (l, grown s.size l.version))
+
+-- values are written into fields, in turn
+abbrev pub put_values : List ℕ → List ℕ → List ℕ → List ℕ
+put_values b [] xs = b
+put_values b (n ∷ ns) [] = b
+put_values b (n ∷ ns) (x ∷ xs) = put_values (written b (the_field n).place (be (the_field n).width x)) ns xs
+
+-- the fields of a level are written
+unfoldable pub with_level : List ℕ → ℕ → Sizes → List ℕ → List ℕ
+with_level b level s xs = put_values b (level_fields level) (values_for s (level_fields level) xs)
+
+-- extent i, which stands at `at`, where the version has it and the data begin at d
+unfoldable pub with_extent : List ℕ → ℕ → ℕ → ℕ → ℕ → List ℕ
+with_extent b v d i at = cond (nat_lt v i) b (written b at (be32 (d - (at + 4))))
+
+-- the extents of version v where the data begin at d
+unfoldable pub with_extents : List ℕ → ℕ → ℕ → List ℕ
+with_extents b v d = with_extent (with_extent (with_extent (with_extent (with_extent b v d 1 6) v d 2 12) v d 3 20) v d 4 68) v d 5 96
+
+-- the data of a file of n bytes and version v give way to the longer header
+abbrev pub with_room : List ℕ → ℕ → ℕ → List ℕ
+with_room b n v = shifted b (header_end v) (n - header_end v) (header_end (v + 1))
+
+-- the new level: its fields, and the last word of the header, which is 0, since the data begin right behind it
+abbrev pub with_end : List ℕ → ℕ → Sizes → List ℕ → List ℕ
+with_end b v s xs = written (with_level b (v + 1) s xs) (header_end (v + 1) - 4) (be32 0)
+
+-- the words that the header had before: the version, and the extents
+abbrev pub with_version : List ℕ → ℕ → List ℕ
+with_version b v = with_extents (written b 0 (be16 (v + 1))) v (header_end (v + 1))
+
+-- a buffer whose first n bytes were a file of version v, when it is raised
+abbrev pub raised_in : List ℕ → ℕ → ℕ → Sizes → List ℕ → List ℕ
+raised_in b n v s xs = with_version (with_end (with_room b n v) v s xs) v
