@@ -1,167 +1,216 @@
 //! The working file: each call's answers, and every byte of the buffer behind it.
-use crate::refusals::{Told, refused};
-use crate::working::{at, buffer_with_m, small_file};
-use crate::{example_file, example_with_extent, example_with_section};
-use editor::WorkingFile;
-use reader::Entry;
-use records::{Fill, Loca};
-use std::test::Fail;
+use crate::files::File::{M, MWithExtent, MWithSection, Small, Zeros};
+use crate::files::lay_file;
+use crate::questions::Answer;
+use crate::questions::Question::{
+    Block, Field, Fill, List, Listed, LookFill, LookLoca, Numbers, Row, Start, Table, Version,
+};
+use crate::refusals::{Refused, Told};
+use crate::runs::Call::{Load, Set, Store};
+use crate::runs::Step::{Ask, Do};
+use crate::runs::{RUN, Run, follow, take_run};
 
-const NO_FILE: Told = Some((31, 5, 0, 0));
+const DONE: Told = None;
+
+const NO_FILE: Refused = (31, 5, 0, 0);
+
+/// What is in a buffer of 200 bytes that begins with file M, the size of the file there, and the version that is answered.
+#[derive(Clone, Copy)]
+struct Made(&'static str, usize, Answer);
+
+static MADE: [Made; 6] = [
+    Made("file M", 160, Ok(&[6])),
+    Made("a tail of one byte", 161, Ok(&[6])),
+    Made("a tail up to the buffer's end", 200, Ok(&[6])),
+    Made("no byte", 0, Err(NO_FILE)),
+    Made("one byte too few", 159, Err(NO_FILE)),
+    Made("more than the buffer has", 201, Err(NO_FILE)),
+];
 
 #[test]
 fn making_holds_a_file_or_none(rt: HostRuntime) {
-    // with 161 bytes there is a tail of one byte; 201 are more than the buffer has
-    for (size, version) in [
-        (160, Some(6)),
-        (161, Some(6)),
-        (200, Some(6)),
-        (0, None),
-        (159, None),
-        (201, None),
-    ] {
-        let mut buffer = buffer_with_m();
-        let file = WorkingFile::make(&mut buffer, size);
-        assert_eq!(rt; file.version().ok(), version);
-        assert_eq!(rt; buffer, buffer_with_m());
+    for made in &MADE {
+        let mut buffer = [255u8; 200];
+        let _ = lay_file(&mut buffer, M);
+        let before = buffer;
+        let steps = [Ask(Version, made.2)];
+        follow(&rt, &mut buffer, made.1, &steps, made.0);
+        assert_eq!(rt; buffer, before, "{}", made.0);
     }
 }
 
-#[test]
-fn without_a_file_all_but_load_answer_31(rt: HostRuntime) {
-    let mut buffer = [0u8; 160];
-    let mut file = WorkingFile::make(&mut buffer, 160);
-    assert_eq!(rt; refused(file.version()), NO_FILE);
-    assert_eq!(rt; refused(file.start(7)), NO_FILE);
-    assert_eq!(rt; refused(file.field(0, 0)), NO_FILE);
-    assert_eq!(rt; refused(file.row(at(0, 0, 0))), NO_FILE);
-    let mut list = [9u32; 2];
-    assert_eq!(rt; refused(file.numbers(at(0, 0, 0), &mut list)), NO_FILE);
-    assert_eq!(rt; list, [9, 9]);
-    assert_eq!(rt; refused(file.block(0, 0)), NO_FILE);
-    assert_eq!(rt; refused(file.look::<Fill>(0)), NO_FILE);
-    let mut table = [];
-    assert_eq!(rt; refused(file.table(&mut table)), NO_FILE);
-    assert_eq!(rt; refused(file.set(2, 0)), NO_FILE);
-    assert_eq!(rt; refused(file.store(0, 0, &[])), NO_FILE);
-    assert_eq!(rt; refused(file.load(&example_file())), None);
-    assert_eq!(rt; file.version().ok(), Some(6));
-}
+static WITHOUT_A_FILE: [Run; 2] = [
+    Run {
+        name: "without a file all but load answer 31",
+        before: Zeros(160),
+        room: 160,
+        steps: &[
+            Ask(Version, Err(NO_FILE)),
+            Ask(Start(7), Err(NO_FILE)),
+            Ask(Field(0, 0), Err(NO_FILE)),
+            Ask(Row(0, 0, 0), Err(NO_FILE)),
+            Ask(Numbers(0, 0, 0, 2), Err(NO_FILE)),
+            Ask(List(0, 0, 0, 2), Ok(&[5, 5, 5])),
+            Ask(Block(0, 0), Err(NO_FILE)),
+            Ask(LookFill(0), Err(NO_FILE)),
+            Ask(Table(0), Err(NO_FILE)),
+            Do(Set(2, 0), Some(NO_FILE)),
+            Do(Store(0, 0, &[]), Some(NO_FILE)),
+        ],
+        after: Zeros(160),
+        ..RUN
+    },
+    Run {
+        name: "a file is loaded where there is none",
+        before: Zeros(160),
+        room: 160,
+        steps: &[
+            Ask(Version, Err(NO_FILE)),
+            Do(Load(M), DONE),
+            Ask(Version, Ok(&[6])),
+        ],
+        ..RUN
+    },
+];
 
 #[test]
-fn a_field_is_set(rt: HostRuntime) -> Result<(), Fail> {
-    let mut buffer = buffer_with_m();
-    let mut file = WorkingFile::make(&mut buffer, 160);
-    for (field, number) in [(0, 18), (21, 18), (2, 21), (11, 21), (12, 21), (19, 21)] {
-        assert_eq!(rt; refused(file.set(field, 7)), Some((number, 5, 0, 0)));
+fn without_a_file(rt: HostRuntime) {
+    for run in &WITHOUT_A_FILE {
+        take_run(&rt, run);
     }
-    file.set(1, 4294967295)?;
-    file.set(4, 60)?;
-    file.set(13, 258)?;
-    file.set(20, 1)?;
-    assert_eq!(rt; (file.field(1, 1)?, file.field(6, 4)?), (4294967295, 60));
-    assert_eq!(rt; refused(file.field(3, 4)), Some((20, 5, 0, 0)));
-    let mut wanted = buffer_with_m();
-    wanted[2..6].copy_from_slice(&[255, 255, 255, 255]);
-    wanted[27] = 60;
-    wanted[62..64].copy_from_slice(&[1, 2]);
-    wanted[95] = 1;
-    assert_eq!(rt; buffer, wanted);
-    Ok(())
 }
 
-#[test]
-fn fields_that_a_version_lacks(rt: HostRuntime) {
-    let mut buffer = small_file();
-    let mut file = WorkingFile::make(&mut buffer, 108);
-    assert_eq!(rt; refused(file.set(15, 7)), Some((33, 5, 0, 0)));
-    assert_eq!(rt; refused(file.set(20, 7)), Some((33, 5, 0, 0)));
-    assert_eq!(rt; refused(file.set(19, 7)), Some((21, 5, 0, 0)));
-    assert_eq!(rt; buffer, small_file());
-}
+static SET_AND_STORED: [Run; 3] = [
+    Run {
+        name: "fields are set, but for those that steer the layout",
+        steps: &[
+            Do(Set(0, 7), Some((18, 5, 0, 0))),
+            Do(Set(21, 7), Some((18, 5, 0, 0))),
+            Do(Set(2, 7), Some((21, 5, 0, 0))),
+            Do(Set(11, 7), Some((21, 5, 0, 0))),
+            Do(Set(12, 7), Some((21, 5, 0, 0))),
+            Do(Set(19, 7), Some((21, 5, 0, 0))),
+            Do(Set(1, 4294967295), DONE),
+            Do(Set(4, 60), DONE),
+            Do(Set(13, 258), DONE),
+            Do(Set(20, 1), DONE),
+            Ask(Field(1, 1), Ok(&[4294967295])),
+            Ask(Field(6, 4), Ok(&[60])),
+            Ask(Field(3, 4), Err((20, 5, 0, 0))),
+        ],
+        bytes: &[
+            (2, &[255, 255, 255, 255]),
+            (27, &[60]),
+            (62, &[1, 2]),
+            (95, &[1]),
+        ],
+        ..RUN
+    },
+    Run {
+        name: "fields that version 4 lacks",
+        before: Small,
+        room: 108,
+        steps: &[
+            Do(Set(15, 7), Some((33, 5, 0, 0))),
+            Do(Set(20, 7), Some((33, 5, 0, 0))),
+            Do(Set(19, 7), Some((21, 5, 0, 0))),
+        ],
+        after: Small,
+        ..RUN
+    },
+    Run {
+        // the three rows of 4 bytes begin at 72, 76 and 80
+        name: "a row is stored",
+        before: Small,
+        room: 120,
+        steps: &[
+            Do(Store(0, 1, &[]), Some((16, 5, 0, 0))),
+            Do(Store(2, 1, &[]), Some((16, 5, 0, 0))),
+            Do(Store(1, 0, &[]), Some((16, 5, 0, 0))),
+            Do(Store(1, 7, &[]), Some((16, 5, 0, 0))),
+            Do(Store(1, 4, &[1; 7]), Some((17, 5, 0, 8))),
+            Do(Store(1, 4, &[1; 9]), Some((17, 5, 0, 8))),
+            Do(Store(1, 1, &[1; 8]), Some((17, 5, 0, 4))),
+            Do(Store(1, 4, &[0, 0, 0, 1, 0, 0, 1, 0]), DONE),
+            Ask(Row(4, 1, 4), Ok(&[84, 8])),
+            Ask(Numbers(6, 1, 4, 3), Ok(&[])),
+            Ask(List(6, 1, 4, 3), Ok(&[1, 256, 5])),
+        ],
+        after: Small,
+        bytes: &[(84, &[0, 0, 0, 1, 0, 0, 1, 0])],
+        ..RUN
+    },
+];
 
 #[test]
-fn a_row_is_stored(rt: HostRuntime) -> Result<(), Fail> {
-    let mut buffer = [255u8; 120];
-    buffer[..108].copy_from_slice(&small_file());
-    let before = buffer;
-    let mut file = WorkingFile::make(&mut buffer, 108);
-    for (cell, row) in [(0, 1), (2, 1), (1, 0), (1, 7)] {
-        assert_eq!(rt; refused(file.store(cell, row, &[])), Some((16, 5, 0, 0)));
+fn fields_and_rows(rt: HostRuntime) {
+    for run in &SET_AND_STORED {
+        take_run(&rt, run);
     }
-    assert_eq!(rt; refused(file.store(1, 4, &[1; 7])), Some((17, 5, 0, 8)));
-    assert_eq!(rt; refused(file.store(1, 4, &[1; 9])), Some((17, 5, 0, 8)));
-    assert_eq!(rt; refused(file.store(1, 1, &[1; 8])), Some((17, 5, 0, 4)));
-    file.store(1, 4, &[0, 0, 0, 1, 0, 0, 1, 0])?;
-    // the three rows of 4 bytes begin at 72, 76 and 80
-    assert_eq!(rt; file.row(at(4, 1, 4))?, (84, 8));
-    let mut list = [5u32; 3];
-    file.numbers(at(6, 1, 4), &mut list)?;
-    assert_eq!(rt; list, [1, 256, 5]);
-    let mut wanted = before;
-    wanted[84..92].copy_from_slice(&[0, 0, 0, 1, 0, 0, 1, 0]);
-    assert_eq!(rt; buffer, wanted);
-    Ok(())
 }
 
-#[test]
-fn other_bytes_are_loaded(rt: HostRuntime) -> Result<(), Fail> {
-    let mut buffer = [255u8; 200];
-    let mut file = WorkingFile::make(&mut buffer, 0);
-    file.load(&example_file())?;
-    assert_eq!(rt; buffer, buffer_with_m());
-    let mut file = WorkingFile::make(&mut buffer, 160);
-    file.load(&small_file())?;
-    assert_eq!(rt; (file.version()?, file.start(6)?), (4, 72));
-    // what M had behind the new end is zero, and the bytes behind M stay
-    let mut wanted = [0u8; 200];
-    wanted[..108].copy_from_slice(&small_file());
-    wanted[160..].copy_from_slice(&[255; 40]);
-    assert_eq!(rt; buffer, wanted);
-    Ok(())
-}
+static LOADED: [Run; 3] = [
+    Run {
+        name: "file M is loaded into a buffer of other bytes",
+        before: Zeros(0),
+        steps: &[Do(Load(M), DONE)],
+        ..RUN
+    },
+    Run {
+        // what M had behind the new end is zero, and the bytes behind M stay
+        name: "a shorter file is loaded",
+        steps: &[
+            Do(Load(Small), DONE),
+            Ask(Version, Ok(&[4])),
+            Ask(Start(6), Ok(&[72])),
+        ],
+        after: Small,
+        zeros: 160,
+        ..RUN
+    },
+    Run {
+        name: "loading is refused whole",
+        before: Small,
+        room: 159,
+        steps: &[
+            Do(Load(M), Some((32, 5, 0, 160))),
+            Do(Load(MWithExtent), Some((4, 2, 0, 12))),
+            Do(Load(MWithSection), Some((9, 3, 2, 116))),
+            Do(Load(Zeros(0)), Some((1, 1, 0, 0))),
+            Ask(Version, Ok(&[4])),
+        ],
+        after: Small,
+        ..RUN
+    },
+];
 
 #[test]
-fn loading_is_refused_whole(rt: HostRuntime) -> Result<(), Fail> {
-    let mut buffer = [7u8; 159];
-    buffer[..108].copy_from_slice(&small_file());
-    let before = buffer;
-    let mut file = WorkingFile::make(&mut buffer, 108);
-    assert_eq!(rt; refused(file.load(&example_file())), Some((32, 5, 0, 160)));
-    assert_eq!(rt;
-        refused(file.load(&example_with_extent())),
-        Some((4, 2, 0, 12))
-    );
-    assert_eq!(rt;
-        refused(file.load(&example_with_section())),
-        Some((9, 3, 2, 116))
-    );
-    assert_eq!(rt; refused(file.load(&[])), Some((1, 1, 0, 0)));
-    assert_eq!(rt; file.version()?, 4);
-    assert_eq!(rt; buffer, before);
-    Ok(())
+fn files_are_loaded(rt: HostRuntime) {
+    for run in &LOADED {
+        take_run(&rt, run);
+    }
 }
 
-#[test]
-fn blocks_of_a_working_file(rt: HostRuntime) -> Result<(), Fail> {
-    let mut buffer = buffer_with_m();
-    let file = WorkingFile::make(&mut buffer, 160);
+static BLOCKS: Run = Run {
     // FILL is 0x46494C4C, XTRA 0x58545241
-    let fill = Entry {
-        key: 1179208780,
-        place: 104,
-        size: 4,
-    };
-    assert_eq!(rt; file.block(6, 1)?, fill);
-    assert_eq!(rt; refused(file.block(5, 1)), Some((20, 5, 0, 0)));
-    let mut table = [fill; 3];
-    assert_eq!(rt; refused(file.table(&mut table[..1])), Some((22, 5, 0, 2)));
-    assert_eq!(rt; file.table(&mut table)?, 2);
-    assert_eq!(rt;
-        (table[1].key, table[1].place, table[2]),
-        (1481921089, 116, fill)
-    );
-    assert_eq!(rt; file.look::<Fill>(1)?.record.doppler_multiple, 4);
-    assert_eq!(rt; refused(file.look::<Loca>(1)), Some((12, 4, 1, 104)));
-    Ok(())
+    name: "blocks of a working file",
+    steps: &[
+        Ask(Block(6, 1), Ok(&[1179208780, 104, 4])),
+        Ask(Block(5, 1), Err((20, 5, 0, 0))),
+        Ask(Table(1), Err((22, 5, 0, 2))),
+        Ask(Listed(1, 0), Ok(&[5, 5, 5])),
+        Ask(Table(3), Ok(&[2])),
+        Ask(Listed(3, 0), Ok(&[1179208780, 104, 4])),
+        Ask(Listed(3, 1), Ok(&[1481921089, 116, 0])),
+        Ask(Listed(3, 2), Ok(&[5, 5, 5])),
+        Ask(LookFill(1), Ok(&[112, 0, 4])),
+        Ask(Fill(1), Ok(&[1, 2, 2, 4])),
+        Ask(LookLoca(1), Err((12, 4, 1, 104))),
+    ],
+    ..RUN
+};
+
+#[test]
+fn blocks_of_a_working_file(rt: HostRuntime) {
+    take_run(&rt, &BLOCKS);
 }

@@ -64,12 +64,16 @@ mod edit_tests;
 #[cfg(test)]
 mod editor_tests;
 #[cfg(test)]
+mod files;
+#[cfg(test)]
 mod kind_tests;
+#[cfg(test)]
+mod questions;
 #[cfg(test)]
 mod reader_tests;
 #[cfg(test)]
 mod refusals;
 #[cfg(test)]
-mod tests;
+mod runs;
 #[cfg(test)]
-mod working;
+mod tests;
