@@ -12,7 +12,9 @@ use Rattle.format.specs.Header.{fields, the_field, header_end}
 use Rattle.format.proofs.Spots.{written_mid}
 use Rattle.format.proofs.Writing.{writing_changes, header_long}
 use Rattle.editor.specs.Edits.{level_fields, values_for, raised}
-use Rattle.editor.specs.Raising.{grown, put_values, with_level, with_extent, with_extents, with_room, with_end, with_version, raised_in}
+use Rattle.editor.specs.Raising.{grown, with_level, with_room, with_end, with_version, raised_in}
+use Rattle.headers.specs.Extents.{with_extent, with_extents}
+use Rattle.headers.specs.Fields.{put_values}
 use Rattle.editor.specs.Calls.{State}
 use Rattle.editor.proofs.Held.{Holding, size_is}
 use Rattle.editor.proofs.Raised.{raised_start, sound_raised}

@@ -9,7 +9,8 @@ use Rattle.buffers.specs.Words.{be}
 use Rattle.format.specs.declared.sizes.Sizes.{Sizes}
 use Rattle.format.specs.Header.{the_field, header_end}
 use Rattle.editor.specs.Edits.{taken, assumed, values_for, level_fields}
-use Rattle.editor.specs.Raising.{put_values, with_level}
+use Rattle.editor.specs.Raising.{with_level}
+use Rattle.headers.specs.Fields.{put_values}
 
 -- the fields of a level from a number on
 abbrev pub left : ℕ → ℕ → List ℕ

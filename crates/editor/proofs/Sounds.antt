@@ -20,7 +20,8 @@ use Rattle.reader.specs.Levels.{field_known, field_present, row_known}
 use Rattle.reader.proofs.Asked.{then_ok, unless_ok, within}
 use Rattle.reader.proofs.Spans.{row_within, span_within}
 use Rattle.reader.proofs.Written.{field_total, within_count}
-use Rattle.editor.specs.Edits.{steers, field_free, as_long, set_conditions, store_conditions, with_row}
+use Rattle.editor.specs.Edits.{field_free, as_long, set_conditions, store_conditions, with_row}
+use Rattle.headers.specs.Fields.{steers}
 
 -- a value that fits is put among values that fit
 fit_set : (ss : List Slot) (fs : List ℕ) (at i x : ℕ) → Fit ss fs → i < length fs → x < limit (get_or (owned ss at) i nowhere).1 → Fit ss (set fs i x)

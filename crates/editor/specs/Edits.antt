@@ -1,5 +1,5 @@
 -- Edits: what each makes of a content, or why it is refused.
-use Rattle.std.specs.Prelude.{ℕ, ◌+◌, ◌-◌, ◌&&◌, ◌||◌, not, cond, List, [], ◌∷◌, ◌++◌, length, take, drop, Bool, Ok, Result, ◌==◌, nat_lt, slice_index, slice_set}
+use Rattle.std.specs.Prelude.{ℕ, ◌+◌, ◌-◌, ◌&&◌, not, cond, List, [], ◌∷◌, ◌++◌, length, take, drop, Bool, Ok, Result, ◌==◌, nat_lt, slice_index, slice_set}
 use Rattle.std.specs.List.{filter, range_with_len}
 use Rattle.buffers.specs.Moves.{written}
 use Rattle.faults.specs.declared.fault.Fault.{Fault}
@@ -10,6 +10,7 @@ use Rattle.format.specs.Changes.{with_blocks, with_field, with_cells, with_heade
 use Rattle.format.specs.Checks.{Check, unless, ◌then◌, ◌with◌, all_of}
 use Rattle.format.specs.Content.{Block, Content, write, content_sizes}
 use Rattle.format.specs.Header.{the_field}
+use Rattle.headers.specs.Fields.{steers}
 use Rattle.kinds.specs.Kind.{KindSpec}
 use Rattle.editor.specs.Blocks.{block, block_in, longer, renewed, wrote}
 use Rattle.reader.specs.Answers.{part, row_in, row_answer, look_answer}
@@ -34,10 +35,7 @@ pub data Edit : Type 0 where
   -- the next version, with values for the fields that it has more
   raise : List ℕ → Edit
 
--- fields 2, 11, 12 and 19 steer the layout of the data; no edit sets them
-abbrev pub steers : ℕ → Bool
-steers n = n == 2 || n == 11 || n == 12 || n == 19
-
+-- no edit sets a field that steers the layout of the data
 abbrev pub field_free : ℕ → Check
 field_free n = unless (not (steers n)) (fault SteeringField 0)
 

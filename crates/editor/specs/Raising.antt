@@ -1,14 +1,16 @@
 -- Raising a file in a buffer: what is asked of its layout, and what is written, one move after the other.
-use Rattle.std.specs.Prelude.{ℕ, ◌+◌, ◌-◌, cond, List, [], ◌∷◌, Ok, Result, ◌==◌, nat_le, nat_lt}
+use Rattle.std.specs.Prelude.{ℕ, ◌+◌, ◌-◌, List, [], ◌∷◌, Ok, Result, ◌==◌, nat_le, nat_lt}
 use Rattle.buffers.specs.Moves.{written, shifted}
-use Rattle.buffers.specs.Words.{be, be16, be32}
+use Rattle.buffers.specs.Words.{be16, be32}
 use Rattle.faults.specs.declared.fault.Fault.{Fault}
 use Rattle.faults.specs.declared.refusal.Refusal.TheVariants.{NothingToRaise, Gap, Capacity}
 use Rattle.faults.specs.Faults.{fault}
 use Rattle.format.specs.declared.judging.Layout.{Layout}
 use Rattle.format.specs.declared.sizes.Sizes.{Sizes}
 use Rattle.format.specs.Checks.{Check, unless, ◌then◌, ◌with◌, all_of}
-use Rattle.format.specs.Header.{the_field, header_end}
+use Rattle.format.specs.Header.{header_end}
+use Rattle.headers.specs.Extents.{with_extents}
+use Rattle.headers.specs.Fields.{put_values}
 use Rattle.reader.specs.Levels.{held}
 use Rattle.editor.specs.Edits.{as_long, values_wanted, values_for, level_fields}
 use Rattle.editor.specs.Calls.{State, capacity, file}
@@ -34,23 +36,9 @@ abbrev pub layout_to_raise : State → ℕ → Result (Layout × ℕ) Fault
 layout_to_raise s m =
     held (file s) with λ l. all_of (layout_conditions l m) then (room_for_size s (grown s.size l.version) then Ok (l, grown s.size l.version))
 
--- values are written into fields, in turn
-abbrev pub put_values : List ℕ → List ℕ → List ℕ → List ℕ
-put_values b [] xs = b
-put_values b (n ∷ ns) [] = b
-put_values b (n ∷ ns) (x ∷ xs) = put_values (written b (the_field n).place (be (the_field n).width x)) ns xs
-
 -- the fields of a level are written
 unfoldable pub with_level : List ℕ → ℕ → Sizes → List ℕ → List ℕ
 with_level b level s xs = put_values b (level_fields level) (values_for s (level_fields level) xs)
-
--- extent i, which stands at `at`, where the version has it and the data begin at d
-unfoldable pub with_extent : List ℕ → ℕ → ℕ → ℕ → ℕ → List ℕ
-with_extent b v d i at = cond (nat_lt v i) b (written b at (be32 (d - (at + 4))))
-
--- the extents of version v where the data begin at d
-unfoldable pub with_extents : List ℕ → ℕ → ℕ → List ℕ
-with_extents b v d = with_extent (with_extent (with_extent (with_extent (with_extent b v d 1 6) v d 2 12) v d 3 20) v d 4 68) v d 5 96
 
 -- the data of a file of n bytes and version v give way to the longer header
 abbrev pub with_room : List ℕ → ℕ → ℕ → List ℕ

@@ -2,20 +2,14 @@
 ghost use Rattle.std.specs.Prelude.{◌≡◌, ◌+◌, ◌≤◌, length, IfOk};
 ghost use Rattle.reader.specs.Laws.{ReadFile};
 ghost use Rattle.editor.specs.Calls.{view, file, edit, answer, after};
-ghost use Rattle.editor.specs.Edits.{set, steers, set_place};
+ghost use Rattle.editor.specs.Edits.{set, set_place};
 ghost use Rattle.editor.specs.Law.{Given};
 
 use crate::working::WorkingFile;
 use buffers::write_word;
 use faults::{Fault, Refusal};
+use headers::is_steering;
 use reader::Field;
-
-/// Whether a field steers the layout of the data.
-fn steers(number: usize) -> bool
-    ensures { result ≡ steers number }
-{
-    matches!(number, 2 | 11 | 12 | 19)
-}
 
 impl<'a> WorkingFile<'a> {
     /// Where a field that may be set stands; refuses 31, 18 for no such field, 21 for one that steers the layout, and 33 if
@@ -27,7 +21,7 @@ impl<'a> WorkingFile<'a> {
         let file = self.judged();
         let layout = file.layout()?;
         let field = Field::try_from(number)?;
-        if steers(number) {
+        if is_steering(number) {
             return Err(Fault::at(Refusal::SteeringField, 0));
         }
         if field.level() > layout.version as usize {

@@ -4,7 +4,8 @@ ghost use Rattle.format.specs.Changes.{settled};
 ghost use Rattle.editor.specs.Calls.{state};
 ghost use Rattle.editor.specs.Patches.{opened, roomed, PatchFits};
 
-use buffers::{shift_down, shift_up, write_word, zero_bytes};
+use buffers::{shift_down, shift_up, zero_bytes};
+use headers::write_following;
 
 /// Where bytes of a file give way to others, how many to how many, and what is so afterwards.
 #[derive(Clone, Copy)]
@@ -47,26 +48,11 @@ fn open(buffer: &mut [u8], size: usize, at: usize, removed: usize, added: usize)
     }
 }
 
-/// Writes the extents of a header of version 6 whose data begin at a place, and the size of its section.
-fn settle(buffer: &mut [u8], start: usize, section: usize)
-    requires header { 104 ≤ length buffer.old }
-    requires start { (104 ≤ start) × (start < 2 ^ 32) }
-    requires section { section < 2 ^ 32 }
-    ensures { buffer.new ≡ settled buffer.old start section }
-{
-    let _ = write_word(buffer, 6, (start - 10) as u32);
-    let _ = write_word(buffer, 12, (start - 16) as u32);
-    let _ = write_word(buffer, 20, (start - 24) as u32);
-    let _ = write_word(buffer, 68, (start - 72) as u32);
-    let _ = write_word(buffer, 96, (start - 100) as u32);
-    let _ = write_word(buffer, 100, section as u32);
-}
-
 /// Makes room in the file of `size` bytes, as a patch says, and settles its header.
 pub(crate) fn make_room(buffer: &mut [u8], size: usize, patch: Patch)
     requires { PatchFits (state buffer.old size) patch }
     ensures { buffer.new ≡ roomed buffer.old size patch }
 {
     open(buffer, size, patch.at, patch.removed, patch.added);
-    settle(buffer, patch.start, patch.section);
+    let _ = write_following(buffer, 6, patch.start, patch.section as u32);
 }

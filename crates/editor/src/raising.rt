@@ -9,19 +9,19 @@ ghost use Rattle.reader.specs.Laws.{ReadFile};
 ghost use Rattle.editor.specs.Calls.{view, file, edit, answer, after};
 ghost use Rattle.editor.specs.Edits.{raise, taken, assumed, level_fields, values_wanted};
 ghost use Rattle.editor.specs.Law.{Given};
-ghost use Rattle.editor.specs.Raising.{grown, layout_conditions, layout_to_raise, with_level, with_extent, with_extents, raised_in};
+ghost use Rattle.editor.specs.Raising.{grown, layout_conditions, layout_to_raise, with_level, raised_in};
 
 use crate::working::{WorkingFile, capacity};
 use buffers::{shift_up, write_word};
 use faults::{Fault, Refusal};
 use format::{Layout, Sizes, header_end};
-use reader::Field;
+use headers::{is_steering, level_of, write_extents, write_field};
 
 /// Whether a raise gives a field a value of the caller's.
 fn is_taken(number: usize) -> bool
     ensures { result ≡ taken number }
 {
-    !matches!(number, 2 | 11 | 12 | 13 | 19)
+    !is_steering(number) && number != 13
 }
 
 /// What a raise gives the other fields.
@@ -71,35 +71,6 @@ fn check_raise(layout: Layout, count: usize) -> Result<(), Fault>
     Ok(())
 }
 
-/// The level of a field.
-fn level_of(number: usize) -> usize
-    requires from { 1 ≤ number }
-    requires to { number ≤ 20 }
-    ensures { result ≡ (the_field number).level }
-{
-    match Field::try_from(number) {
-        Ok(field) => field.level(),
-        Err(_) => 0,
-    }
-}
-
-/// Writes a field; field 2 has 16 bits.
-fn put_field(buffer: &mut [u8], number: usize, value: u32)
-    requires from { 1 ≤ number }
-    requires to { number ≤ 20 }
-    requires room { (the_field number).place + 4 ≤ length buffer.old }
-    requires fits { number ≡ 2 → value < 2 ^ 16 }
-    ensures { buffer.new ≡ written buffer.old (the_field number).place (be (the_field number).width value) }
-{
-    if let Ok(field) = Field::try_from(number) {
-        if number == 2 {
-            let _ = write_word(buffer, field.place(), value as u16);
-        } else {
-            let _ = write_word(buffer, field.place(), value);
-        }
-    }
-}
-
 /// Writes the fields of a level: the values in order into those that take one, and what is assumed into the others.
 fn put_level(buffer: &mut [u8], level: usize, sizes: Sizes, values: &[u32])
     requires room { header_end level ≤ length buffer.old }
@@ -112,40 +83,12 @@ fn put_level(buffer: &mut [u8], level: usize, sizes: Sizes, values: &[u32])
             continue;
         }
         if is_taken(number) {
-            put_field(buffer, number, values[used]);
+            let _ = write_field(buffer, number, values[used]);
             used += 1;
         } else {
-            put_field(buffer, number, assumed(sizes, number));
+            let _ = write_field(buffer, number, assumed(sizes, number));
         }
     }
-}
-
-/// Writes extent i, which stands at a place, if the version has it.
-#[tactic(auto, unfolding(crate::specs::Raising::with_extent))]
-fn put_extent(buffer: &mut [u8], version: u16, start: usize, number: u16, place: usize)
-    requires room { number ≤ version → place + 4 ≤ length buffer.old }
-    requires reach { number ≤ version → place + 4 ≤ start }
-    requires small { start ≤ 104 }
-    ensures { buffer.new ≡ with_extent buffer.old version start number place }
-{
-    if version >= number {
-        let _ = write_word(buffer, place, (start - (place + 4)) as u32);
-    }
-}
-
-/// Writes the extents that the version has.
-#[tactic(auto, unfolding(crate::specs::Raising::with_extents))]
-fn put_extents(buffer: &mut [u8], version: u16, start: usize)
-    requires room { start ≤ length buffer.old }
-    requires reach { header_end version ≤ start }
-    requires small { start ≤ 104 }
-    ensures { buffer.new ≡ with_extents buffer.old version start }
-{
-    put_extent(buffer, version, start, 1, 6);
-    put_extent(buffer, version, start, 2, 12);
-    put_extent(buffer, version, start, 3, 20);
-    put_extent(buffer, version, start, 4, 68);
-    put_extent(buffer, version, start, 5, 96);
 }
 
 /// Raises the file in the first `size` bytes of a buffer, which has that layout: its data give way to the longer header.
@@ -165,7 +108,7 @@ fn put_raised(buffer: &mut [u8], size: usize, layout: Layout, values: &[u32])
     // The new level's last word: an extent that ends where the data begin, or the size of a section without blocks.
     let _ = write_word(buffer, end - 4, 0u32);
     let _ = write_word(buffer, 0, version + 1);
-    put_extents(buffer, version, end);
+    let _ = write_extents(buffer, version, end);
 }
 
 impl<'a> WorkingFile<'a> {

@@ -15,7 +15,14 @@ impl<'a> WorkingFile<'a> {
         ensures bytes { result.bytes.now ≡ file (view self.now) }
         ensures read { ReadFile (file (view self.now)) }
     {
-        JudgedFile::of(file_in(self.buffer, self.size))
+        JudgedFile::of(self.bytes())
+    }
+
+    /// The bytes of the file, of which there are none where there is no file.
+    pub fn bytes(&self) -> &[u8]
+        ensures { result.now ≡ file (view self.now) }
+    {
+        file_in(self.buffer, self.size)
     }
 
     /// The file's version; refuses 31.
