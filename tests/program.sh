@@ -5,15 +5,16 @@ top=$(cd "$(dirname "$0")/.." && pwd)
 "$top/bin/kutsvame" >/dev/null || exit 1
 program=$top/crates/kutsvame/out/kutsvame
 cd "$top/crates/kutsvame/data" || exit 1
-out=$(mktemp) err=$(mktemp) early=$(mktemp)
-trap 'rm -f "$out" "$err" "$early"' EXIT
+out=$(mktemp) err=$(mktemp) early=$(mktemp) script=$(mktemp) made=$(mktemp -d)
+trap 'rm -rf "$out" "$err" "$early" "$script" "$made"' EXIT
 failed=0
 
-# expect STATUS WORDS..: standard input has what is wanted on standard output; what came on standard error is kept
+# expect STATUS WORDS..: standard input has what is wanted on standard output; what came on standard error is kept. The program is
+# given the script on its standard input
 expect() {
   local status=$1 got=0
   shift
-  "$program" "$@" >"$out" 2>"$err" || got=$?
+  "$program" "$@" <"$script" >"$out" 2>"$err" || got=$?
   if [ "$got" != "$status" ]; then
     echo "kutsvame $*: status $got, not $status"
     failed=1
@@ -32,6 +33,21 @@ complains() {
   fi
 }
 
+# same FILE OTHER: the two have the same bytes
+same() {
+  if ! cmp "$1" "$2"; then
+    failed=1
+  fi
+}
+
+# absent FILE: no file has that name, nor one that begins with it
+absent() {
+  if compgen -G "$1*" >/dev/null; then
+    echo "$1 is there"
+    failed=1
+  fi
+}
+
 # says TEXT: TEXT is all that came on standard error
 says() {
   if [ "$(cat "$err")" != "$1" ]; then
@@ -45,6 +61,12 @@ The built-in example file M has 160 bytes. Judged whole, and with one byte chang
 M: accepted: version 6, 1 range cell of 1 Doppler bin, no quality, data at 124, 2 blocks: FILL, XTRA
 M with extent 2 = 107 in place of 108: refused 4: extents disagree (header), place 12
 M with section size 19 in place of 20: refused 9: block head cut (section), block 2, place 116
+M is drafted from nothing: begun with its header, FILL put, XTRA carried, turned to its cell, that laid, and closed:
+put: accepted
+carry: accepted
+lay: accepted
+close: 160 bytes
+These are the bytes of M.
 M is loaded into a working file with room for 200 bytes. Then, one call after the other: it is to be raised, field 4 set to 60,
 row 1 of cell 1 stored, a ZONE and a NOTE put behind its blocks, block 2 given two bytes more, block 1 other numbers, and block 4
 taken out:
@@ -291,6 +313,283 @@ expect 1 sing </dev/null
 complains 'kutsvame: unknown word: sing'
 expect 1 Judge ../m.cs </dev/null
 complains 'kutsvame: unknown word: Judge'
+
+# file M, drafted: its fields are those that the sample file was given, and a line may be blank or a comment
+cd .. || exit 1
+m_values='0 1212240450 0 0 0 0 0 0 0 1 0 0 0 0 0 0'
+read -ra m <<<"6 1 1 1 $m_values"
+cat >"$script" <<'END'
+# file M
+put FILL 1 2 2 4
+
+put-raw "XTRA" x
+  turn
+lay x000102030405060708090a0b0c0d0e0f101112131415161718191A1B1C1D1E1F20212223
+close
+# the last line
+END
+expect 0 draft "$made/m.cs" "${m[@]}" <<END
+0 begin ok
+2 put ok
+4 put-raw ok
+5 turn ok
+6 lay ok
+7 close ok 160
+$made/m.cs: accepted: version 6, 1 range cell of 1 Doppler bin, no quality, data at 124, 2 blocks: FILL, XTRA
+END
+says ''
+same "$made/m.cs" m.cs
+
+# no file is written over but with --force, and no other is left beside it
+echo old >"$made/old.cs"
+expect 1 draft "$made/old.cs" "${m[@]}" </dev/null
+says "$made/old.cs: is there already; it is written over only with --force"
+same "$made/old.cs" <(echo old)
+expect 0 draft "$made/old.cs" "${m[@]}" --force <<END
+0 begin ok
+2 put ok
+4 put-raw ok
+5 turn ok
+6 lay ok
+7 close ok 160
+$made/old.cs: accepted: version 6, 1 range cell of 1 Doppler bin, no quality, data at 124, 2 blocks: FILL, XTRA
+END
+same "$made/old.cs" m.cs
+same <(ls "$made") <(printf 'm.cs\nold.cs\n')
+expect 1 draft "$made/nowhere/m.cs" "${m[@]}" <<END
+0 begin ok
+2 put ok
+4 put-raw ok
+5 turn ok
+6 lay ok
+7 close ok 160
+$made/nowhere/m.cs: accepted: version 6, 1 range cell of 1 Doppler bin, no quality, data at 124, 2 blocks: FILL, XTRA
+END
+says "$made/nowhere/m.cs: cannot be written: No such file or directory (os error 2)"
+
+# site.cs, drafted: all kinds of block, and blocks whose bytes are given; the cells from files
+tail -c 240 site.cs | head -c 120 >"$made/cell-1"
+tail -c 120 site.cs >"$made/cell-2"
+cat >"$script" <<END
+put TIME 1 2024 2 29 23 59 4629278204471803904 4651127699538968576 13840687554816376832
+put LOCA 4630580026239090688 13861732207372009472 4625619029774565376
+put RCVI 3 5 13849765122815295488 "AWG 4.01"
+put GLRM 3 1 70000 12 7 4621537642612260864 4593671619917905920 4613937818241073152 1
+put SUPI 1 0 2 1 24 4619285842798575616 4602678819172646912 -3 300
+put FWIN 2 3 4603039107142836552 9218868437227405312
+put-raw "FILL" x010202046e65776572
+put ZONE "GMT"
+put-raw "CITY" x416D65726963612F4C6F7320416E67656C6573000000
+put TOOL x5370656374726141766572616765722C09E9312E30
+put SITD
+put-raw "LOCA" x$(printf '00%.0s' {1..23})
+put-raw "TOOL" "no end"
+put-raw x52435649 x00000001000000010000000000000000$(printf '78%.0s' {1..32})
+put-raw x5355004d x0000000000
+put LOCA 9221120237041090561 18442240474082181120 9223372036854775808
+turn
+lay @$made/cell-1
+lay @$made/cell-2
+close
+END
+expect 0 draft "$made/site.cs" 6 2 3 2 3786912000 1094861636 15 1 0 1095237632 1073741824 3267887104 1 4294967294 1069547520 10 \
+  1129534295 825110528 3 3758096384 <<END
+0 begin ok
+$(for line in {1..16}; do
+  case $line in 7 | 9 | 12 | 13 | 14 | 15) echo "$line put-raw ok" ;; *) echo "$line put ok" ;; esac
+done)
+17 turn ok
+18 lay ok
+19 lay ok
+20 close ok 824
+$made/site.cs: accepted: version 6, 2 range cells of 3 Doppler bins, quality, data at 584, 16 blocks: TIME, LOCA, RCVI, GLRM, SUPI, FWIN, FILL, ZONE, CITY, TOOL, SITD, LOCA, TOOL, RCVI, SU?M, LOCA
+END
+says ''
+same "$made/site.cs" site.cs
+
+# cells of 73728 bytes each, for which the buffer has to grow; with a CITY, 3 * 73728 + 104 + 13 bytes
+head -c 73728 <(yes 'ebb and flow') >"$made/cell"
+printf '%s\n' 'put CITY x313233343536' turn "lay @$made/cell" "lay @$made/cell" "lay @$made/cell" close >"$script"
+read -ra large <<<"6 1 2048 3 $m_values"
+expect 0 draft "$made/large.cs" "${large[@]}" <<END
+0 begin ok
+1 put ok
+2 turn ok
+3 lay ok
+4 lay ok
+5 lay ok
+6 close ok 221303
+$made/large.cs: accepted: version 6, 3 range cells of 2048 Doppler bins, no quality, data at 119, 1 block: CITY
+END
+same <(tail -c 221184 "$made/large.cs") <(cat "$made/cell" "$made/cell" "$made/cell")
+
+# versions 4 and 5, which have no blocks
+for version in 4 5; do
+  cat >"$script" <<END
+put FILL 1 2 2 4
+turn
+lay "twenty-seven bytes and then some more"
+lay "thirty-six bytes, as a cell must be."
+lay "thirty-six bytes, as a cell must be."
+close
+END
+  case $version in
+    4) read -ra start <<<"4 1 1 1 7 1212240450 0 0 0 0 0 0 0 1 0" ;;
+    5) read -ra start <<<"5 1 1 1 $m_values" ;;
+  esac
+  expect 1 draft "$made/early.cs" "${start[@]}" <<END
+0 begin ok
+1 put refused 33 layer 5 block 0 place 0
+2 turn ok
+3 lay refused 17 layer 5 block 0 place 36
+4 lay ok
+5 lay refused 38 layer 5 block 0 place 1
+6 close ok $((version == 4 ? 108 : 136))
+END
+  says 'kutsvame: line 1: refused: put'
+  absent "$made/early.cs"
+  sed -i -e 1d -e /twenty/d "$script"
+  sed -i -e 3d "$script"
+  expect 0 draft "$made/early.cs" "${start[@]}" <<END
+0 begin ok
+1 turn ok
+2 lay ok
+3 close ok $((version == 4 ? 108 : 136))
+$made/early.cs: accepted: version $version, 1 range cell of 1 Doppler bin, no quality, data at $((version == 4 ? 72 : 100)), 0 blocks
+END
+  rm -f "$made/early.cs"
+done
+
+# begin's refusals, the first that holds
+: >"$script"
+while read -r number place start; do
+  read -ra words <<<"$start"
+  expect 1 draft "$made/no.cs" "${words[@]}" < <(echo "0 begin refused $number layer 5 block 0 place $place")
+  says 'kutsvame: line 0: refused: begin'
+done <<END
+2 0 3 1 0 0
+2 0 7 1 1 1 $m_values
+5 0 6 1 0 0 $m_values
+5 0 6 1 32769 1 $m_values
+6 0 6 1 1 0
+6 0 4 1 32768 8193 $m_values
+17 16 6 1 1 1
+17 16 5 1 1 1 $m_values 0
+17 11 4 1 1 1 $m_values
+END
+
+# texts that cannot be written, cells that are missing, and a close that comes later
+cat >"$script" <<END
+put ZONE "$(printf 'z%.0s' {1..255})"
+put ZONE "$(printf 'z%.0s' {1..256})"
+put RCVI 1 1 0 "thirty-two bytes, which is one m"
+put RCVI 1 1 0 "thirty-one bytes, as it should."
+put TOOL x6100
+put TIME 1 2 3 4 5 6 7 8 9 "late"
+turn
+close
+lay x
+lay "thirty-six bytes, as a cell must be."
+close
+END
+expect 1 draft "$made/no.cs" "${m[@]}" <<'END'
+0 begin ok
+1 put ok
+2 put refused 15 layer 5 block 0 place 255
+3 put refused 15 layer 5 block 0 place 31
+4 put ok
+5 put refused 15 layer 5 block 0 place 1
+6 put refused 15 layer 5 block 0 place 0
+7 turn ok
+8 close refused 38 layer 5 block 0 place 0
+9 lay refused 17 layer 5 block 0 place 36
+10 lay ok
+11 close ok 460
+END
+says 'kutsvame: line 2: refused: put'
+
+# misuse LINE TEXT: the script's last line is not done, and says so; the lines before it are
+misuse() {
+  expect 1 draft "$made/no.cs" "${m[@]}" < <(
+    echo '0 begin ok'
+    head -n "$(($1 - 1))" "$script" | tr -d '\r' | cut -d ' ' -f 1 | awk '{print NR, $1, "ok"}' | sed -e '/close/s/$/ 140/'
+  )
+  says "kutsvame: line $1: $2"
+}
+
+while IFS='|' read -r text why; do
+  echo "$text" >"$script"
+  misuse 1 "$why"
+done <<END
+lay x00|no call at this stage: lay
+close|no call at this stage: close
+begin|no call at this stage: begin
+Put FILL 1 2 2 4|no call at this stage: Put
+"put" FILL 1 2 2 4|no call at this stage: "put"
+put|a word is missing
+put NOTE 1|no kind of block
+put FILL 1 2 2|a word is missing
+put FILL 1 2 2 256|no decimal number that fits
+put FILL 1 2 2 four|no decimal number that fits
+put FILL 1 2 2 -4|no decimal number that fits
+put TIME 1 65536 3 4 5 6 7 8 9|no decimal number that fits
+put SUPI 1 0 2 1 4294967296 0 0 0 0|no decimal number that fits
+put SUPI 1 0 2 1 24 0 0 -32769 0|no decimal number that fits
+put LOCA 0 0 18446744073709551616|no decimal number that fits
+put ZONE GMT|no bytes: neither x and digits, nor a text in quotes, nor @ and a path
+put ZONE "GMT|no bytes: neither x and digits, nor a text in quotes, nor @ and a path
+put ZONE "G" "MT"|more words than the call takes
+put-raw|a word is missing
+put-raw "KEY" x|no key of four bytes
+put-raw "KEYED" x|no key of four bytes
+put-raw "NOTE"|a word is missing
+put-raw "NOTE" x0|an odd count of hexadecimal digits
+put-raw "NOTE" x0g|no hexadecimal digit
+put-raw "NOTE" x00 x00|more words than the call takes
+put-raw "NOTE" @$made/nowhere|$made/nowhere: cannot be read: No such file or directory (os error 2)
+put-raw "NOTE" @$made|$made: cannot be read: Is a directory (os error 21)
+turn turn|more words than the call takes
+END
+printf '# caf\xe9\n' >"$script"
+misuse 1 'no text in UTF-8'
+printf 'turn\r\nlay "thirty-six bytes, as a cell must be."\r\nclose\r\nput "\xe9"\r\n' >"$script"
+misuse 4 'no text in UTF-8'
+for call in 'put FILL 1 2 2 4' 'put-raw "NOTE" x' turn; do
+  printf 'turn\n%s\n' "$call" >"$script"
+  misuse 2 "no call at this stage: ${call%% *}"
+done
+printf 'turn\nclose now\n' >"$script"
+misuse 2 'more words than the call takes'
+printf 'turn\nlay\n' >"$script"
+misuse 2 'a word is missing'
+for call in 'lay x' close 'put SITD' turn; do
+  printf 'turn\nlay "thirty-six bytes, as a cell must be."\nclose\n%s\n' "$call" >"$script"
+  misuse 4 "no call at this stage: ${call%% *}"
+done
+
+# a script that ends before close, and one that is empty
+printf 'put SITD\nturn\n# and no more\n' >"$script"
+expect 1 draft "$made/no.cs" "${m[@]}" <<'END'
+0 begin ok
+1 put ok
+2 turn ok
+END
+says 'kutsvame: line 3: the script ends before close'
+: >"$script"
+expect 1 draft "$made/no.cs" "${m[@]}" < <(echo '0 begin ok')
+says 'kutsvame: line 0: the script ends before close'
+absent "$made/no.cs"
+
+expect 1 draft </dev/null
+complains 'kutsvame: wrong count of words: draft'
+expect 1 draft "$made/no.cs" 6 1 1 --force </dev/null
+complains 'kutsvame: wrong count of words: draft'
+for start in '65536 1 1 1' '6 -1 1 1' '6 1 4294967296 1' '6 1 1 one' '6 1 1 1 4294967296'; do
+  # shellcheck disable=SC2086
+  expect 1 draft "$made/no.cs" $start </dev/null
+  complains "kutsvame: no decimal number: $(grep -Eo -e '65536|-1|4294967296|one' <<<"$start")"
+done
+absent "$made/no.cs"
 
 [ $failed = 0 ] && echo "tests/program.sh: all as wanted"
 exit $failed

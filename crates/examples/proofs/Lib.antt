@@ -1,4 +1,5 @@
 pub mod Computed
+pub mod Drafted
 pub mod Edited
 pub mod Read
 mod Told

@@ -1,3 +1,4 @@
+pub mod Draftings
 pub mod Editings
 pub mod FileM
 pub mod Readings

@@ -2,6 +2,7 @@
 #![tactic(auto)]
 
 ghost use Rattle.std.specs.Prelude.{◌≡◌, ◌<◌, set};
+ghost use Rattle.examples.specs.Draftings.{Draftings};
 ghost use Rattle.examples.specs.Editings.{Editings};
 ghost use Rattle.examples.specs.FileM.{file_m, put32};
 ghost use Rattle.examples.specs.Readings.{Readings};
@@ -31,6 +32,7 @@ pub fn example_file() -> [u8; 160]
     ensures worked { Worked }
     ensures readings { Readings }
     ensures editings { Editings }
+    ensures draftings { Draftings }
 {
     bytes_of_m()
 }
@@ -59,6 +61,8 @@ pub fn example_with_section() -> [u8; 160]
     damaged(103, 19)
 }
 
+#[cfg(test)]
+mod draft_tests;
 #[cfg(test)]
 mod edit_tests;
 #[cfg(test)]

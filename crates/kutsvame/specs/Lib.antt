@@ -1,4 +1,5 @@
 pub mod Lines
 pub mod Misuse
+pub mod Room
+pub mod Script
 pub mod Verbs
-pub mod Words

@@ -1,7 +1,8 @@
-//! What the program does with no words: the built-in example file is judged, and amended as a working file.
+//! What the program does with no words: the built-in example file is judged, drafted anew, and amended as a working file.
 use crate::blocks_shown::show_blocks;
 use crate::judge::judge_bytes;
 use crate::words::LEVEL;
+use draft::{Drafted, Parts, Start, draft_file};
 use editor::{Amended, Amendment, amend};
 use examples::{example_file, example_with_extent, example_with_section};
 use faults::Fault;
@@ -158,8 +159,51 @@ fn amend_example(rt: &HostRuntime) -> io::Result<()> {
     }
 }
 
-/// Judges the example file and its damaged copies, and amends it.
+/// Prints what the calls of a draft answered.
+fn print_drafted(rt: &HostRuntime, drafted: Drafted) -> io::Result<()> {
+    rt.println(Outcome("put", drafted.put))?;
+    rt.println(Outcome("carry", drafted.carried))?;
+    rt.println(Outcome("lay", drafted.laid))?;
+    match drafted.closed {
+        Ok(size) => println!(rt; "close: {size} bytes"),
+        Err(fault) => rt.println(Outcome("close", Err(fault))),
+    }
+}
+
+/// Drafts file M from nothing, and compares it with the built-in one.
+fn draft_example(rt: &HostRuntime) -> io::Result<()> {
+    let m = example_file();
+    let mut buffer = [0u8; 160];
+    let parts = Parts {
+        start: Start {
+            version: 6,
+            kind: 1,
+            bins: 1,
+            ranges: 1,
+        },
+        values: &[0, 0, 0, 0, 0, 0, 0, 0, 0, 1, 0, 0, 0, 0, 0, 0],
+        text: &[],
+        key: *b"XTRA",
+        body: &[],
+        cell: &m[124..],
+    };
+    rt.println(
+        "M is drafted from nothing: begun with its header, FILL put, XTRA carried, turned to its cell, that laid, and closed:",
+    )?;
+    match draft_file::<Fill>(&mut buffer, &parts, fill(4)) {
+        Ok(drafted) => print_drafted(rt, drafted)?,
+        Err(fault) => rt.println(Outcome("begin", Err(fault)))?,
+    }
+    rt.println(if buffer == m {
+        "These are the bytes of M."
+    } else {
+        "These are other bytes than those of M."
+    })
+}
+
+/// Judges the example file and its damaged copies, drafts it anew, and amends it.
 pub fn show_example(rt: &HostRuntime) -> io::Result<()> {
     judge_example(rt)?;
+    draft_example(rt)?;
     amend_example(rt)
 }

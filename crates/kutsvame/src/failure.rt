@@ -2,13 +2,13 @@
 ghost use Rattle.std.specs.Prelude.{IfErr};
 ghost use Rattle.std.specs.Result.{result_ok};
 ghost use Rattle.kutsvame.specs.Misuse.{NoNumber};
-ghost use Rattle.kutsvame.specs.Words.{Writes};
+ghost use Rattle.script.specs.Numbers.{Writes};
 
 use crate::help::HELP;
-use crate::words::number_named;
 use faults::Fault;
 use format::{Layout, judge};
 use printed::Refused;
+use script::Number;
 use std::alloc::AllocError;
 use std::process::ExitCode;
 use std::{fmt, fs, io};
@@ -40,8 +40,12 @@ pub enum Failure<'a> {
     Unread(Unread<'a>),
     /// The file of that name, or a question about it, is refused.
     Refused(&'a str, Fault),
-    /// A file that was judged is refused or cannot be read; its line says why.
-    Judged,
+    /// A file of that name is there already.
+    Taken(&'a str),
+    /// The file of that name cannot be written, and why.
+    Unwritten(&'a str, io::Error),
+    /// A line has said why already.
+    Told,
     /// The words cannot be read, nothing can be printed, or there is no memory.
     Io(io::Error),
 }
@@ -79,7 +83,13 @@ impl Failure<'_> {
                 let refused = Refused(fault);
                 eprintln!(rt; "{name}: {refused}")?;
             }
-            Failure::Judged => {}
+            Failure::Taken(name) => {
+                eprintln!(rt; "{name}: is there already; it is written over only with --force")?;
+            }
+            Failure::Unwritten(name, error) => {
+                eprintln!(rt; "{name}: cannot be written: {error}")?;
+            }
+            Failure::Told => {}
             Failure::Io(error) => return Err(error),
         }
         Ok(ExitCode::FAILURE)
@@ -96,10 +106,10 @@ pub fn read_accepted<'a>(
     Ok((bytes, layout))
 }
 
-/// The number below 2^64 that a word writes in decimal digits.
-pub fn number(word: &str) -> Result<usize, Failure<'_>>
-    ensures number { Writes word.now (result_ok result) }
+/// The number that a word writes in decimal digits, if it fits its type.
+pub fn number<N: Number>(word: &str) -> Result<N, Failure<'_>>
+    ensures number { Writes N.number N.part word.now (result_ok result) }
     ensures told { IfErr result (NoNumber word.now) }
 {
-    number_named(word).ok_or(Failure::Misused("no decimal number", word))
+    N::named(word).ok_or(Failure::Misused("no decimal number", word))
 }

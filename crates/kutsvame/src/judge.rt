@@ -77,7 +77,7 @@ pub fn judge_files<'a>(rt: &HostRuntime, names: &'a [String]) -> Result<(), Fail
     let mut outcome = Ok(());
     for name in names {
         if !judge_file(rt, name.as_str())? {
-            outcome = Err(Failure::Judged);
+            outcome = Err(Failure::Told);
         }
     }
     outcome

@@ -1,15 +1,21 @@
-//! Kutsvame: judges and reads SeaSonde cross spectra files.
+//! Kutsvame: judges, reads and drafts SeaSonde cross spectra files.
 #![tactic(auto)]
 
 mod blocks_shown;
+mod draft_words;
+mod drafting;
 mod example;
 mod failure;
 mod help;
 mod judge;
+mod lines;
+mod output;
+mod room;
 mod row;
 mod show;
 mod words;
 
+use draft_words::draft_words;
 use example::show_example;
 use failure::Failure;
 use help::HELP;
@@ -33,6 +39,7 @@ fn run<'a>(rt: &HostRuntime, words: &'a [String]) -> Result<(), Failure<'a>> {
         Some(Verb::Judge) => judge_files(rt, others),
         Some(Verb::Show) => show_words(rt, others),
         Some(Verb::Row) => row_words(rt, others),
+        Some(Verb::Draft) => draft_words(rt, others),
         Some(Verb::Help) => {
             rt.print(HELP)?;
             Ok(())

@@ -1,6 +1,5 @@
 //! The words of the command line.
 ghost use Rattle.kutsvame.specs.Verbs.{Names};
-ghost use Rattle.kutsvame.specs.Words.{Writes};
 
 /// What the program is asked to do.
 #[derive(Clone, Copy, PartialEq, Eq, Debug)]
@@ -11,6 +10,8 @@ pub enum Verb {
     Show,
     /// Print the numbers of a row.
     Row,
+    /// Make a new file from a script.
+    Draft,
     /// Print the help text.
     Help,
 }
@@ -26,6 +27,7 @@ impl Verb {
             "judge" => Some(Verb::Judge),
             "show" => Some(Verb::Show),
             "row" => Some(Verb::Row),
+            "draft" => Some(Verb::Draft),
             "help" | "--help" | "-h" => Some(Verb::Help),
             _ => None,
         }
@@ -34,10 +36,3 @@ impl Verb {
 
 /// The level of a reader that is given none: the highest.
 pub const LEVEL: usize = 6;
-
-/// The number below 2^64 that a word writes in decimal digits; nothing where it writes none.
-pub fn number_named(word: &str) -> Option<usize>
-    ensures { Writes word.now result }
-{
-    word.parse::<usize>().ok()
-}

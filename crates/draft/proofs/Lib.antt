@@ -1,0 +1,10 @@
+pub mod Versions
+pub mod Fields
+pub mod Blocks
+pub mod Begun
+pub mod Opened
+pub mod Added
+pub mod Follows
+pub mod Runs
+pub mod Beginning
+pub mod Ended

@@ -1,0 +1,4 @@
+pub mod Drafts
+pub mod Headers
+pub mod Stages
+pub mod Law

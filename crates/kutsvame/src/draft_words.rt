@@ -1,0 +1,234 @@
+//! The verb draft: a new file, written from nothing by the calls of a script.
+ghost use Rattle.std.specs.Prelude.{◌≡◌, IfOk, IfErr, IsNone, MatchOption};
+ghost use Rattle.kutsvame.specs.declared.drafting.Drafting.TheVariants.{Closed};
+
+use crate::drafting::Drafting;
+use crate::failure::{Failure, number};
+use crate::judge::judge_bytes;
+use crate::lines::{Answer, Line, Misdone, Outcome, Undone};
+use crate::output::write_whole;
+use crate::room::LEAST;
+use draft::Start;
+use std::alloc::{AllocError, Global};
+use std::io::Read;
+use std::{fs, io};
+
+/// What the words ask for.
+#[derive(Clone, Copy)]
+struct Request<'a> {
+    /// The name of the new file.
+    name: &'a str,
+    /// Whether it may take the place of another.
+    over: bool,
+    /// What the draft begins with.
+    start: Start,
+    /// The words of the values for the other fields.
+    values: &'a [String],
+}
+
+/// What the words OUT VERSION KIND BINS RANGES VALUE... [--force] ask for.
+fn request_of<'a>(words: &'a [String]) -> Result<Request<'a>, Failure<'a>> {
+    let (words, over) = match words.split_last() {
+        Some((last, others)) if last.as_str() == "--force" => (others, true),
+        _ => (words, false),
+    };
+    match words {
+        [name, version, kind, bins, ranges, values @ ..] => Ok(Request {
+            name: name.as_str(),
+            over,
+            start: Start {
+                version: number(version.as_str())?,
+                kind: number(kind.as_str())?,
+                bins: number(bins.as_str())?,
+                ranges: number(ranges.as_str())?,
+            },
+            values,
+        }),
+        _ => Err(Failure::Misused("wrong count of words", "draft")),
+    }
+}
+
+/// The numbers that the words write.
+fn numbers<'a>(heap: Global, words: &'a [String]) -> Result<Vec<u32>, Failure<'a>> {
+    let mut values = Vec::new(heap);
+    for word in words {
+        values
+            .push(number(word.as_str())?)
+            .map_err(AllocError::from)?;
+    }
+    Ok(values)
+}
+
+/// Prints the line of a call, by the number of its line in the script.
+fn print_outcome(rt: &HostRuntime, line: usize, verb: &str, outcome: Outcome) -> io::Result<()> {
+    rt.println(Answer {
+        line,
+        verb,
+        outcome,
+    })
+}
+
+/// Begins a draft, and prints how that came out, under the number 0.
+fn begin<'s>(
+    rt: &HostRuntime,
+    buffer: &mut Vec<u8>,
+    start: Start,
+    values: &[u32],
+) -> Result<Drafting, Misdone<'s>> {
+    let verb = "begin";
+    match Drafting::begin(buffer, start, values)? {
+        Ok(drafting) => match print_outcome(rt, 0, verb, Outcome::Done) {
+            Ok(()) => Ok(drafting),
+            Err(error) => {
+                drafting.give_up();
+                Err(error.into())
+            }
+        },
+        Err(fault) => {
+            print_outcome(rt, 0, verb, Outcome::Refused(fault))?;
+            Err(Misdone::Refused(verb))
+        }
+    }
+}
+
+/// Prints how the call of a line came out; fails where it was refused.
+fn print_call<'s>(
+    rt: &HostRuntime,
+    line: Line<'s>,
+    called: Result<Outcome, Misdone<'s>>,
+) -> Result<(), Misdone<'s>> {
+    let outcome = called?;
+    print_outcome(rt, line.number, line.verb, outcome)?;
+    match outcome {
+        Outcome::Refused(_) => Err(Misdone::Refused(line.verb)),
+        _ => Ok(()),
+    }
+}
+
+/// Makes the call of a line, and prints how it came out; the stage of the draft then, and why the line is not done.
+fn step<'s>(
+    rt: &HostRuntime,
+    drafting: Drafting,
+    buffer: &mut Vec<u8>,
+    number: usize,
+    bytes: &'s [u8],
+) -> (Drafting, Result<(), Misdone<'s>>) {
+    match Line::read(number, bytes) {
+        Ok(None) => (drafting, Ok(())),
+        Ok(Some(line)) => {
+            let (drafting, called) = drafting.call(rt, buffer, line);
+            (drafting, print_call(rt, line, called))
+        }
+        Err(misdone) => (drafting, Err(misdone)),
+    }
+}
+
+/// The length of a draft that is closed, if no call was refused; else the line that was refused, or the last, of that number.
+fn finish<'s>(
+    drafting: Drafting,
+    refused: Option<Undone<'s>>,
+    last: usize,
+) -> Result<usize, Undone<'s>>
+    ensures closed { IfOk result (λ length. (drafting ≡ Closed length) × IsNone refused.entry) }
+    ensures told { IfErr result (λ undone. MatchOption refused.entry (undone.line ≡ last) (λ first. undone.line ≡ first.line)) }
+{
+    match (drafting, refused) {
+        (Drafting::Closed(length), None) => Ok(length),
+        (open, Some(undone)) => {
+            open.give_up();
+            Err(undone)
+        }
+        (open, None) => {
+            open.give_up();
+            Err(Undone {
+                line: last,
+                why: Misdone::Last,
+            })
+        }
+    }
+}
+
+/// Makes the calls of a script one after the other, also behind a call that is refused, up to a line that has no call; the
+/// length of the draft when it is closed, or the line that keeps it from being written.
+fn follow<'s>(
+    rt: &HostRuntime,
+    mut drafting: Drafting,
+    buffer: &mut Vec<u8>,
+    script: &'s [u8],
+) -> Result<usize, Undone<'s>> {
+    let mut refused = None;
+    let mut last = 0;
+    for (number, bytes) in (1..).zip(script.split_inclusive(|byte| *byte == b'\n')) {
+        last = number;
+        let (next, outcome) = step(rt, drafting, buffer, number, bytes);
+        drafting = next;
+        match outcome {
+            Ok(()) => {}
+            Err(Misdone::Refused(verb)) => {
+                refused = refused.or(Some(Undone {
+                    line: number,
+                    why: Misdone::Refused(verb),
+                }));
+            }
+            Err(why) => {
+                drafting.give_up();
+                return Err(Undone { line: number, why });
+            }
+        }
+    }
+    finish(drafting, refused, last)
+}
+
+/// Begins a draft and makes the calls of a script; the length of the draft when it is closed, or the line that keeps it from
+/// being written.
+fn draft_script<'s>(
+    rt: &HostRuntime,
+    buffer: &mut Vec<u8>,
+    start: Start,
+    values: &[u32],
+    script: &'s [u8],
+) -> Result<usize, Undone<'s>> {
+    match begin(rt, buffer, start, values) {
+        Ok(drafting) => follow(rt, drafting, buffer, script),
+        Err(why) => Err(Undone { line: 0, why }),
+    }
+}
+
+/// Judges the draft and writes it.
+fn write_draft<'a>(
+    rt: &HostRuntime,
+    request: Request<'a>,
+    bytes: &[u8],
+) -> Result<(), Failure<'a>> {
+    if !judge_bytes(rt, request.name, bytes)? {
+        return Err(Failure::Told);
+    }
+    write_whole(rt, request.name, bytes, request.over)
+}
+
+/// Refuses a name that another file has, unless the new one may take its place.
+fn check_free<'a>(rt: &HostRuntime, request: Request<'a>) -> Result<(), Failure<'a>> {
+    match fs::exists(rt, request.name) {
+        Ok(there) if there && !request.over => Err(Failure::Taken(request.name)),
+        Ok(_) => Ok(()),
+        Err(error) => Err(Failure::Unwritten(request.name, error)),
+    }
+}
+
+/// Does what the words OUT VERSION KIND BINS RANGES VALUE... [--force] ask.
+pub fn draft_words<'a>(rt: &HostRuntime, words: &'a [String]) -> Result<(), Failure<'a>> {
+    let request = request_of(words)?;
+    let values = numbers(rt.alloc(), request.values)?;
+    check_free(rt, request)?;
+    let mut script = Vec::new(rt.alloc());
+    rt.reader().read_to_end(&mut script)?;
+    let mut buffer = vec![in rt.alloc(); 0; LEAST]?;
+    let values = values.as_slice();
+    match draft_script(rt, &mut buffer, request.start, values, script.as_slice()) {
+        Ok(length) => write_draft(rt, request, buffer.get(..length).unwrap_or(&[])),
+        Err(undone) => {
+            eprintln!(rt; "kutsvame: {undone}")?;
+            Err(Failure::Told)
+        }
+    }
+}

@@ -1,0 +1,5 @@
+pub mod Misread
+pub mod Numbers
+pub mod Records
+pub mod Words
+pub mod Literal

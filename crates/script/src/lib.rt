@@ -1,0 +1,14 @@
+//! The reading of scripts: text with one call to a line, and words parted by spaces.
+#![tactic(auto)]
+
+mod from_words;
+mod literal;
+mod misread;
+mod numbers;
+mod words;
+
+pub use from_words::FromWords;
+pub use literal::{Literal, hexadecimal, key_of};
+pub use misread::Misread;
+pub use numbers::Number;
+pub use words::Words;

@@ -1,0 +1,77 @@
+//! Decimal numbers.
+ghost use Rattle.std.specs.Prelude.{ℕ, List};
+ghost use Rattle.buffers.specs.Words.{one, two, four, eight};
+ghost use Rattle.kinds.specs.Packed.{Part, plain, signed, folded};
+ghost use Rattle.script.specs.Numbers.{Writes};
+
+/// A number that a word can write.
+// Each type has an impl of its own: the gate takes none that a macro of this repository writes.
+pub trait Number: Copy {
+    ghost part: { Part };
+
+    ghost number: { Self → ℕ };
+
+    /// The number that a word writes in decimal digits; nothing where it writes none, or one that does not fit.
+    fn named(word: &str) -> Option<Self>
+        ensures { Writes number part word.now result };
+}
+
+impl Number for u8 {
+    ghost part = { plain one };
+
+    ghost number = { λ x. x };
+
+    fn named(word: &str) -> Option<u8> {
+        word.parse::<u8>().ok()
+    }
+}
+
+impl Number for u16 {
+    ghost part = { plain two };
+
+    ghost number = { λ x. x };
+
+    fn named(word: &str) -> Option<u16> {
+        word.parse::<u16>().ok()
+    }
+}
+
+impl Number for u32 {
+    ghost part = { plain four };
+
+    ghost number = { λ x. x };
+
+    fn named(word: &str) -> Option<u32> {
+        word.parse::<u32>().ok()
+    }
+}
+
+impl Number for u64 {
+    ghost part = { plain eight };
+
+    ghost number = { λ x. x };
+
+    fn named(word: &str) -> Option<u64> {
+        word.parse::<u64>().ok()
+    }
+}
+
+impl Number for usize {
+    ghost part = { plain eight };
+
+    ghost number = { λ x. x };
+
+    fn named(word: &str) -> Option<usize> {
+        word.parse::<usize>().ok()
+    }
+}
+
+impl Number for i16 {
+    ghost part = { signed };
+
+    ghost number = { folded };
+
+    fn named(word: &str) -> Option<i16> {
+        word.parse::<i16>().ok()
+    }
+}
