@@ -57,6 +57,35 @@ says() {
 }
 
 expect 0 <<'END'
+1. A station's file of version 4 is drafted, with two range cells of four Doppler bins and no quality, and judged:
+the draft: accepted: version 4, 2 range cells of 4 Doppler bins, no quality, data at 72, 0 blocks
+2. It is raised to version 5 with the values of five fields, and to version 6, which has no more fields:
+raise: accepted
+raise: accepted
+3. It gets four blocks. The ZONE is one as a newer program writes it, with a byte Q behind the text GMT:
+add TIME: accepted
+add LOCA: accepted
+carry ZONE: accepted
+add TOOL: accepted
+4. Block 1 is a TIME, and cannot be replaced as if it were a LOCA. A refused call changes nothing:
+replace block 1: refused 12: key (block), block 1, place 104
+5. The ZONE becomes EST5, and the newer program's byte stays behind it:
+replace block 3: accepted
+block 1 TIME at 104, size 31: mark 0, year 2024, month 1, day 1, hour 0, minute 0, seconds 0, coverage 3600, utc 2
+block 2 LOCA at 143, size 24: latitude 58.125, longitude 23.5, altitude 10
+block 3 ZONE at 175, size 6: "EST5"; bytes behind 1
+block 4 TOOL at 189, size 16: "SpectraTool 7.1"
+6. Readers of all levels find the data at one byte:
+level 1: data at 213
+level 2: data at 213
+level 3: data at 213
+level 4: data at 213
+level 5: data at 213
+level 6: data at 213
+7. Row 4 of cell 2, the cross spectrum of antennas 1 and 2, as a reader of level 4 saw it after the draft and one of level 6 sees it now:
+before: 4120c000 4120d000 4120e000 4120f000 41210000 41211000 41212000 41213000
+after: 4120c000 4120d000 4120e000 4120f000 41210000 41211000 41212000 41213000
+These are the same numbers. Nothing is saved.
 The built-in example file M has 160 bytes. Judged whole, and with one byte changed:
 M: accepted: version 6, 1 range cell of 1 Doppler bin, no quality, data at 124, 2 blocks: FILL, XTRA
 M with extent 2 = 107 in place of 108: refused 4: extents disagree (header), place 12
@@ -305,8 +334,30 @@ expect 1 row site.cs 1 1 six </dev/null
 complains 'kutsvame: no decimal number: six'
 
 cd damaged || exit 1
-expect 0 help < <(sed -e '1,/^pub const HELP/d' -e '/^";$/d' "$top/crates/kutsvame/src/help.rt")
-complains ''
+# the help text: its parts as they stand in the source, in order, a blank line between two; and each of them for its verb
+help_part() {
+  sed -n "/^const $1: &str/,/^\";/p" "$top/crates/kutsvame/src/help.rt" | sed -e 1d -e '$d'
+}
+whole_help() {
+  help_part USAGE
+  for part in JUDGE SHOW ROW DRAFT RUN RAISE ADD STATUS; do
+    echo
+    help_part "$part"
+  done
+}
+for word in help --help -h; do
+  expect 0 "$word" < <(whole_help)
+  complains ''
+done
+for verb in judge show row draft run raise add; do
+  expect 0 help "$verb" < <(help_part "${verb^^}")
+  says ''
+done
+expect 0 help help < <(help_part USAGE)
+expect 1 help sing </dev/null
+complains 'kutsvame: unknown word: sing'
+expect 1 help judge show </dev/null
+complains 'kutsvame: wrong count of words: help'
 expect 1 judge </dev/null
 complains 'kutsvame: no file is named: judge'
 expect 1 sing </dev/null
@@ -590,6 +641,273 @@ for start in '65536 1 1 1' '6 -1 1 1' '6 1 4294967296 1' '6 1 1 one' '6 1 1 1 42
   complains "kutsvame: no decimal number: $(grep -Eo -e '65536|-1|4294967296|one' <<<"$start")"
 done
 absent "$made/no.cs"
+
+# every call of a run, and every refusal that one can answer: what tests/make-run.py works out is printed. The files are those of data/, a
+# file of version 1, and a cell
+mkdir "$made/run" && cp -r . "$made/run" && cp "$early" "$made/run/early.cs" && cd "$made/run" || exit 1
+head -c 72 <(yes 'ebb and flow') >cell
+expect 0 run "$top/tests/run.script" <"$top/tests/run.expected"
+says ''
+if [ "$(wc -l <"$top/tests/run.expected")" -lt 400 ]; then
+  echo 'tests/run.expected is not whole'
+  failed=1
+fi
+expect 0 judge drafted.cs raised.cs <<'END'
+drafted.cs: accepted: version 6, 1 range cell of 1 Doppler bin, no quality, data at 136, 3 blocks: FILL, XTRA, ZONE
+raised.cs: accepted: version 6, 3 range cells of 2 Doppler bins, no quality, data at 133, 1 block: SITD
+END
+same <(ls) <({ printf '%s\n' cell drafted.cs early.cs raised.cs && ls "$top/crates/kutsvame/data"; } | sort)
+
+# run_script STATUS TEXT..: runs a script of the lines that stand behind STATUS
+run_script() {
+  local status=$1
+  shift
+  printf '%s\n' "$@" >"$script"
+  expect "$status" run "$script"
+}
+
+# a file that is saved: never over another but with --force, and nothing is left beside it
+run_script 1 'make 160 @m.cs' 'save m.cs' 'version' <<'END'
+1 make ok file 160
+END
+says 'kutsvame: line 2: m.cs: is there already; it is written over only with --force'
+same m.cs "$top/crates/kutsvame/data/m.cs"
+run_script 0 'make 200 @m.cs' 'set 1 7' 'save m.cs --force' 'set 1 0' 'save other.cs' 'save other.cs --force' <<'END'
+1 make ok file 160
+2 set ok
+3 save ok 160
+4 set ok
+5 save ok 160
+6 save ok 160
+END
+says ''
+expect 0 show m.cs 1 <<'END'
+version 6, read at level 1
+data at 124
+layout unknown at this level
+field 1 nDateTime: 7
+blocks are not seen at this level
+END
+same other.cs "$top/crates/kutsvame/data/m.cs"
+cp other.cs m.cs
+rm other.cs
+if compgen -G '*.new' >/dev/null; then
+  echo 'a file is left beside one that was saved'
+  failed=1
+fi
+run_script 1 'make 160 @m.cs' 'save first.cs' 'save nowhere/m.cs' 'save third.cs' <<'END'
+1 make ok file 160
+2 save ok 160
+END
+says 'kutsvame: line 3: nowhere/m.cs: cannot be written: No such file or directory (os error 2)'
+same first.cs m.cs
+absent third.cs
+rm first.cs
+run_script 1 'make 100 "no file"' 'save none.cs' < <(echo '1 make ok no file')
+says 'kutsvame: line 2: no file is held: save'
+absent none.cs
+
+# a refused call ends nothing; a script without a call prints nothing
+run_script 0 'judge x' 'judge @m.cs' <<'END'
+1 judge refused 1 layer 1 block 0 place 0
+2 judge ok version 6 start 124 blocks 2
+END
+run_script 0 '# nothing' '' '   ' </dev/null
+says ''
+
+# stops TEXT WHY: a line that is no call ends the run, behind a buffer made and a draft begun
+stops() {
+  run_script 1 'make 160 @m.cs' 'begin 200 6 1 1 1 0 1 0 0 0 0 0 0 0 1 0 0 0 0 0 0' "$1" 'version' <<'END'
+1 make ok file 160
+2 begin ok
+END
+  says "kutsvame: line 3: $2"
+}
+
+no_bytes='no bytes: neither x and digits, nor a text in quotes, nor @ and a path'
+while IFS='|' read -r text why; do
+  stops "$text" "$why"
+done <<END
+sing|no call at this stage: sing
+Version|no call at this stage: Version
+remove 1|no call at this stage: remove
+lay x|no call at this stage: lay
+close|no call at this stage: close
+version 1|more words than the call takes
+start|a word is missing
+start one|no decimal number that fits
+start -1|no decimal number that fits
+start 18446744073709551616|no decimal number that fits
+start 1 1|more words than the call takes
+field 1|a word is missing
+field 1 1 1|more words than the call takes
+row 6 1|a word is missing
+row 6 1 1 1|more words than the call takes
+numbers 6 1 1|a word is missing
+numbers 6 1 1 9 9|more words than the call takes
+block 6|a word is missing
+block 6 1 1|more words than the call takes
+look 1|a word is missing
+look 1 NOTE|no kind of block
+look 1 fill|no kind of block
+look 1 FILL 1|more words than the call takes
+table|a word is missing
+table all|no decimal number that fits
+bytes 1|a word is missing
+bytes 1 2 3|more words than the call takes
+judge|a word is missing
+judge m.cs|$no_bytes
+judge x0|an odd count of hexadecimal digits
+judge x0g|no hexadecimal digit
+judge @nowhere.cs|nowhere.cs: cannot be read: No such file or directory (os error 2)
+judge @damaged|damaged: cannot be read: Is a directory (os error 21)
+judge x x|more words than the call takes
+make|a word is missing
+make 1|a word is missing
+make one x|no decimal number that fits
+make 1 x x|more words than the call takes
+load|a word is missing
+load @m.cs x|more words than the call takes
+set 1|a word is missing
+set 1 4294967296|no decimal number that fits
+set 1 1 1|more words than the call takes
+store 1 1|a word is missing
+store 1 1 x x|more words than the call takes
+add|a word is missing
+add NOTE 1|no kind of block
+add FILL 1 2 3|a word is missing
+add FILL 1 2 3 256|no decimal number that fits
+add ZONE "a" "b"|more words than the call takes
+add ZONE GMT|$no_bytes
+carry "NOTE"|a word is missing
+carry "NOT" x|no key of four bytes
+carry x0001020304 x|no key of four bytes
+carry "NOTE" x x|more words than the call takes
+lengthen 1|a word is missing
+lengthen 1 x x|more words than the call takes
+replace 1|a word is missing
+replace 1 FILL 1 2 3|a word is missing
+replace 1 NOTE|no kind of block
+replace FILL 1 2 2 8|no decimal number that fits
+drop|a word is missing
+drop 1 1|more words than the call takes
+raise one|no decimal number that fits
+raise 4294967296|no decimal number that fits
+begin 200 6 1 1|a word is missing
+begin 200 65536 1 1 1|no decimal number that fits
+begin 200 6 1 1 1 -1|no decimal number that fits
+put NOTE|no kind of block
+put-raw "NOTE"|a word is missing
+turn 1|more words than the call takes
+save|a word is missing
+save a.cs b.cs|more words than the call takes
+save a.cs --force now|more words than the call takes
+END
+absent a.cs
+
+# a call with no buffer made, or with no draft begun
+while read -r call; do
+  run_script 1 '# nothing is made yet' "$call" </dev/null
+  says "kutsvame: line 2: no buffer is made yet: ${call%% *}"
+done <<'END'
+version
+bytes 0 1
+save m.cs
+load @m.cs
+table 0
+END
+for call in 'put SITD' 'put-raw "NOTE" x' turn 'lay x' close; do
+  run_script 1 'make 160 @m.cs' "$call" < <(echo '1 make ok file 160')
+  says "kutsvame: line 2: no call at this stage: ${call%% *}"
+done
+run_script 1 'begin 200 7 1 1 1' turn < <(echo '1 begin refused 2 layer 5 block 0 place 0')
+says 'kutsvame: line 2: no call at this stage: turn'
+printf 'judge x\n# caf\xe9\n' >"$script"
+expect 1 run "$script" < <(echo '1 judge refused 1 layer 1 block 0 place 0')
+says 'kutsvame: line 2: no text in UTF-8'
+expect 1 run </dev/null
+complains 'kutsvame: wrong count of words: run'
+expect 1 run "$script" "$script" </dev/null
+complains 'kutsvame: wrong count of words: run'
+expect 1 run nowhere.script </dev/null
+says 'nowhere.script: cannot be read: No such file or directory (os error 2)'
+
+# one edit of a file: what was done, and the line of judge for the new file; and the same by a run
+expect 0 add m.cs zone.cs ZONE '"GMT"' <<'END'
+zone.cs: ZONE added as block 3, 172 bytes
+zone.cs: accepted: version 6, 1 range cell of 1 Doppler bin, no quality, data at 136, 3 blocks: FILL, XTRA, ZONE
+END
+says ''
+run_script 0 'make 500 @m.cs' 'add ZONE "GMT"' 'save other.cs' 'add SUPI 1 0 2 1 24 0 0 -3 300' 'save more.cs' >/dev/null < <(
+  printf '%s\n' '1 make ok file 160' '2 add ok' '3 save ok 172' '4 add ok' '5 save ok 208'
+)
+same zone.cs other.cs
+expect 0 add zone.cs supi.cs SUPI 1 0 2 1 24 0 0 -3 300 <<'END'
+supi.cs: SUPI added as block 4, 208 bytes
+supi.cs: accepted: version 6, 1 range cell of 1 Doppler bin, no quality, data at 172, 4 blocks: FILL, XTRA, ZONE, SUPI
+END
+same supi.cs more.cs
+expect 1 add m.cs zone.cs SITD </dev/null
+says 'zone.cs: is there already; it is written over only with --force'
+same zone.cs other.cs
+expect 0 add m.cs zone.cs SITD '"a site, in quotes"' --force <<'END'
+zone.cs: SITD added as block 3, 186 bytes
+zone.cs: accepted: version 6, 1 range cell of 1 Doppler bin, no quality, data at 150, 3 blocks: FILL, XTRA, SITD
+END
+expect 0 add zone.cs zone.cs FILL 0 0 0 0 --force <<'END'
+zone.cs: FILL added as block 4, 198 bytes
+zone.cs: accepted: version 6, 1 range cell of 1 Doppler bin, no quality, data at 162, 4 blocks: FILL, XTRA, SITD, FILL
+END
+rm zone.cs other.cs more.cs supi.cs
+expect 1 add version-5-gap.cs no.cs SITD </dev/null
+says 'version-5-gap.cs: refused 33: version lacks it (call), block 0, place 0'
+expect 1 add m.cs no.cs TOOL x6100 </dev/null
+says 'm.cs: refused 15: text unfit (call), block 0, place 1'
+expect 1 add damaged/head-cut.cs no.cs SITD </dev/null
+says 'damaged/head-cut.cs: refused 9: block head cut (section), block 2, place 116'
+expect 1 add m.cs no.cs NOTE </dev/null
+says 'kutsvame: add: no kind of block'
+expect 1 add m.cs no.cs FILL 1 2 3 </dev/null
+says 'kutsvame: add: a word is missing'
+expect 1 add m.cs no.cs ZONE GMT </dev/null
+says "kutsvame: add: $no_bytes"
+expect 1 add m.cs no.cs </dev/null
+complains 'kutsvame: wrong count of words: add'
+expect 1 add m.cs </dev/null
+complains 'kutsvame: wrong count of words: add'
+expect 1 add nowhere.cs no.cs SITD </dev/null
+says 'nowhere.cs: cannot be read: No such file or directory (os error 2)'
+expect 0 raise version-4.cs five.cs 10 1129534295 825110528 3 3758096384 <<'END'
+five.cs: raised from version 4 to 5, 316 bytes
+five.cs: accepted: version 5, 3 range cells of 2 Doppler bins, no quality, data at 100, 0 blocks
+END
+says ''
+expect 0 raise five.cs six.cs <<'END'
+six.cs: raised from version 5 to 6, 320 bytes
+six.cs: accepted: version 6, 3 range cells of 2 Doppler bins, no quality, data at 104, 0 blocks
+END
+same <(tail -c 216 six.cs) <(tail -c 216 version-4.cs)
+expect 0 raise early.cs two.cs < <(
+  echo 'two.cs: raised from version 1 to 2, 571408 bytes'
+  echo 'two.cs: accepted: version 2, 31 range cells of 512 Doppler bins, no quality, data at 16, 0 blocks'
+)
+rm two.cs five.cs
+expect 1 raise six.cs no.cs </dev/null
+says 'six.cs: refused 35: nothing to raise (call), block 0, place 0'
+expect 1 raise six.cs six.cs </dev/null
+says 'six.cs: is there already; it is written over only with --force'
+rm six.cs
+expect 1 raise version-5-gap.cs no.cs </dev/null
+says 'version-5-gap.cs: refused 36: gap (call), block 0, place 0'
+expect 1 raise version-4.cs no.cs 1 2 3 4 </dev/null
+says 'version-4.cs: refused 17: wrong length or count (call), block 0, place 5'
+expect 1 raise version-4.cs no.cs 1 2 3 4 five </dev/null
+says 'kutsvame: raise: no decimal number that fits'
+expect 1 raise version-4.cs nowhere/no.cs 1 2 3 4 5 </dev/null
+says 'nowhere/no.cs: cannot be written: No such file or directory (os error 2)'
+expect 1 raise version-4.cs </dev/null
+complains 'kutsvame: wrong count of words: raise'
+absent no.cs
 
 [ $failed = 0 ] && echo "tests/program.sh: all as wanted"
 exit $failed

@@ -1,5 +1,3 @@
 pub mod Lines
 pub mod Misuse
-pub mod Room
-pub mod Script
 pub mod Verbs

@@ -1,17 +1,18 @@
 //! The verb draft: a new file, written from nothing by the calls of a script.
 ghost use Rattle.std.specs.Prelude.{◌≡◌, IfOk, IfErr, IsNone, MatchOption};
-ghost use Rattle.kutsvame.specs.declared.drafting.Drafting.TheVariants.{Closed};
+ghost use Rattle.session.specs.declared.drafting.Drafting.TheVariants.{Closed};
 
-use crate::drafting::Drafting;
 use crate::failure::{Failure, number};
 use crate::judge::judge_bytes;
-use crate::lines::{Answer, Line, Misdone, Outcome, Undone};
-use crate::output::write_whole;
-use crate::room::LEAST;
+use crate::words::{MOST, split_force};
 use draft::Start;
+use session::{Answer, Drafting, Line, Misdone, Outcome, Room, Undone, check_free, write_whole};
 use std::alloc::{AllocError, Global};
+use std::io;
 use std::io::Read;
-use std::{fs, io};
+
+/// How many bytes the buffer of a draft has at first.
+const LEAST: usize = 256;
 
 /// What the words ask for.
 #[derive(Clone, Copy)]
@@ -28,10 +29,7 @@ struct Request<'a> {
 
 /// What the words OUT VERSION KIND BINS RANGES VALUE... [--force] ask for.
 fn request_of<'a>(words: &'a [String]) -> Result<Request<'a>, Failure<'a>> {
-    let (words, over) = match words.split_last() {
-        Some((last, others)) if last.as_str() == "--force" => (others, true),
-        _ => (words, false),
-    };
+    let (words, over) = split_force(words);
     match words {
         [name, version, kind, bins, ranges, values @ ..] => Ok(Request {
             name: name.as_str(),
@@ -60,7 +58,12 @@ fn numbers<'a>(heap: Global, words: &'a [String]) -> Result<Vec<u32>, Failure<'a
 }
 
 /// Prints the line of a call, by the number of its line in the script.
-fn print_outcome(rt: &HostRuntime, line: usize, verb: &str, outcome: Outcome) -> io::Result<()> {
+pub fn print_outcome(
+    rt: &HostRuntime,
+    line: usize,
+    verb: &str,
+    outcome: Outcome,
+) -> io::Result<()> {
     rt.println(Answer {
         line,
         verb,
@@ -71,12 +74,12 @@ fn print_outcome(rt: &HostRuntime, line: usize, verb: &str, outcome: Outcome) ->
 /// Begins a draft, and prints how that came out, under the number 0.
 fn begin<'s>(
     rt: &HostRuntime,
-    buffer: &mut Vec<u8>,
+    room: &mut Room,
     start: Start,
     values: &[u32],
 ) -> Result<Drafting, Misdone<'s>> {
     let verb = "begin";
-    match Drafting::begin(buffer, start, values)? {
+    match Drafting::begin(room, start, values)? {
         Ok(drafting) => match print_outcome(rt, 0, verb, Outcome::Done) {
             Ok(()) => Ok(drafting),
             Err(error) => {
@@ -98,25 +101,26 @@ fn print_call<'s>(
     called: Result<Outcome, Misdone<'s>>,
 ) -> Result<(), Misdone<'s>> {
     let outcome = called?;
+    let refused = matches!(&outcome, Outcome::Refused(_));
     print_outcome(rt, line.number, line.verb, outcome)?;
-    match outcome {
-        Outcome::Refused(_) => Err(Misdone::Refused(line.verb)),
-        _ => Ok(()),
+    if refused {
+        return Err(Misdone::Refused(line.verb));
     }
+    Ok(())
 }
 
 /// Makes the call of a line, and prints how it came out; the stage of the draft then, and why the line is not done.
 fn step<'s>(
     rt: &HostRuntime,
     drafting: Drafting,
-    buffer: &mut Vec<u8>,
+    room: &mut Room,
     number: usize,
     bytes: &'s [u8],
 ) -> (Drafting, Result<(), Misdone<'s>>) {
     match Line::read(number, bytes) {
         Ok(None) => (drafting, Ok(())),
         Ok(Some(line)) => {
-            let (drafting, called) = drafting.call(rt, buffer, line);
+            let (drafting, called) = drafting.call(rt, room, line);
             (drafting, print_call(rt, line, called))
         }
         Err(misdone) => (drafting, Err(misdone)),
@@ -153,14 +157,14 @@ fn finish<'s>(
 fn follow<'s>(
     rt: &HostRuntime,
     mut drafting: Drafting,
-    buffer: &mut Vec<u8>,
+    room: &mut Room,
     script: &'s [u8],
 ) -> Result<usize, Undone<'s>> {
     let mut refused = None;
     let mut last = 0;
     for (number, bytes) in (1..).zip(script.split_inclusive(|byte| *byte == b'\n')) {
         last = number;
-        let (next, outcome) = step(rt, drafting, buffer, number, bytes);
+        let (next, outcome) = step(rt, drafting, room, number, bytes);
         drafting = next;
         match outcome {
             Ok(()) => {}
@@ -183,13 +187,13 @@ fn follow<'s>(
 /// being written.
 fn draft_script<'s>(
     rt: &HostRuntime,
-    buffer: &mut Vec<u8>,
+    room: &mut Room,
     start: Start,
     values: &[u32],
     script: &'s [u8],
 ) -> Result<usize, Undone<'s>> {
-    match begin(rt, buffer, start, values) {
-        Ok(drafting) => follow(rt, drafting, buffer, script),
+    match begin(rt, room, start, values) {
+        Ok(drafting) => follow(rt, drafting, room, script),
         Err(why) => Err(Undone { line: 0, why }),
     }
 }
@@ -203,29 +207,21 @@ fn write_draft<'a>(
     if !judge_bytes(rt, request.name, bytes)? {
         return Err(Failure::Told);
     }
-    write_whole(rt, request.name, bytes, request.over)
-}
-
-/// Refuses a name that another file has, unless the new one may take its place.
-fn check_free<'a>(rt: &HostRuntime, request: Request<'a>) -> Result<(), Failure<'a>> {
-    match fs::exists(rt, request.name) {
-        Ok(there) if there && !request.over => Err(Failure::Taken(request.name)),
-        Ok(_) => Ok(()),
-        Err(error) => Err(Failure::Unwritten(request.name, error)),
-    }
+    write_whole(rt, request.name, bytes, request.over)?;
+    Ok(())
 }
 
 /// Does what the words OUT VERSION KIND BINS RANGES VALUE... [--force] ask.
 pub fn draft_words<'a>(rt: &HostRuntime, words: &'a [String]) -> Result<(), Failure<'a>> {
     let request = request_of(words)?;
     let values = numbers(rt.alloc(), request.values)?;
-    check_free(rt, request)?;
+    check_free(rt, request.name, request.over)?;
     let mut script = Vec::new(rt.alloc());
     rt.reader().read_to_end(&mut script)?;
-    let mut buffer = vec![in rt.alloc(); 0; LEAST]?;
+    let mut room = Room::of_zeros(rt.alloc(), LEAST, MOST)?;
     let values = values.as_slice();
-    match draft_script(rt, &mut buffer, request.start, values, script.as_slice()) {
-        Ok(length) => write_draft(rt, request, buffer.get(..length).unwrap_or(&[])),
+    match draft_script(rt, &mut room, request.start, values, script.as_slice()) {
+        Ok(length) => write_draft(rt, request, room.bytes.get(..length).unwrap_or(&[])),
         Err(undone) => {
             eprintln!(rt; "kutsvame: {undone}")?;
             Err(Failure::Told)

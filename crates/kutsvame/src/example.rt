@@ -1,5 +1,6 @@
 //! What the program does with no words: the built-in example file is judged, drafted anew, and amended as a working file.
 use crate::blocks_shown::show_blocks;
+use crate::calls_shown::Outcome;
 use crate::judge::judge_bytes;
 use crate::words::LEVEL;
 use draft::{Drafted, Parts, Start, draft_file};
@@ -9,7 +10,7 @@ use faults::Fault;
 use printed::{FieldLine, Refused};
 use reader::JudgedFile;
 use records::Fill;
-use std::{fmt, io};
+use std::io;
 use texts::Zone;
 
 /// Judges file M, M with extent 2 one too small, and M with its section one byte too short.
@@ -32,20 +33,6 @@ fn judge_example(rt: &HostRuntime) -> io::Result<()> {
         judge_bytes(rt, name, &bytes)?;
     }
     Ok(())
-}
-
-/// A call by its name, and what it answered.
-#[derive(Drop)]
-struct Outcome<'a>(&'a str, Result<(), Fault>);
-
-impl fmt::Display for Outcome<'_> {
-    fn fmt<W: fmt::Write>(&self, f: &mut fmt::Formatter<W>) -> fmt::Result {
-        let Outcome(call, outcome) = *self;
-        match outcome {
-            Ok(()) => write!(f, "{call}: accepted"),
-            Err(fault) => write!(f, "{}: {}", call, Refused(fault)),
-        }
-    }
 }
 
 /// Prints what the calls of an amendment answered; how many bytes the file has then.

@@ -4,32 +4,15 @@ ghost use Rattle.std.specs.Result.{result_ok};
 ghost use Rattle.kutsvame.specs.Misuse.{NoNumber};
 ghost use Rattle.script.specs.Numbers.{Writes};
 
-use crate::help::HELP;
+use crate::help::help_text;
 use faults::Fault;
 use format::{Layout, judge};
 use printed::Refused;
 use script::Number;
+use session::{Unread, Unwritten, read_file};
 use std::alloc::AllocError;
+use std::io;
 use std::process::ExitCode;
-use std::{fmt, fs, io};
-
-/// A file that cannot be read, and why.
-#[derive(Drop)]
-pub struct Unread<'a> {
-    name: &'a str,
-    error: io::Error,
-}
-
-impl fmt::Display for Unread<'_> {
-    fn fmt<W: fmt::Write>(&self, f: &mut fmt::Formatter<W>) -> fmt::Result {
-        write!(f, "{}: cannot be read: {}", self.name, self.error)
-    }
-}
-
-/// The bytes of a file.
-pub fn read_file<'a>(rt: &HostRuntime, name: &'a str) -> Result<Vec<u8>, Unread<'a>> {
-    fs::read(rt, name).map_err(|error| Unread { name, error })
-}
 
 /// Why not all is done.
 #[derive(Drop)]
@@ -40,10 +23,8 @@ pub enum Failure<'a> {
     Unread(Unread<'a>),
     /// The file of that name, or a question about it, is refused.
     Refused(&'a str, Fault),
-    /// A file of that name is there already.
-    Taken(&'a str),
-    /// The file of that name cannot be written, and why.
-    Unwritten(&'a str, io::Error),
+    /// A file cannot be written.
+    Unwritten(Unwritten<'a>),
     /// A line has said why already.
     Told,
     /// The words cannot be read, nothing can be printed, or there is no memory.
@@ -54,6 +35,12 @@ pub enum Failure<'a> {
 impl<'a> From<Unread<'a>> for Failure<'a> {
     fn from(unread: Unread<'a>) -> Self {
         Failure::Unread(unread)
+    }
+}
+
+impl<'a> From<Unwritten<'a>> for Failure<'a> {
+    fn from(unwritten: Unwritten<'a>) -> Self {
+        Failure::Unwritten(unwritten)
     }
 }
 
@@ -76,19 +63,14 @@ impl Failure<'_> {
         match self {
             Failure::Misused(why, word) => {
                 eprintln!(rt; "kutsvame: {why}: {word}\n")?;
-                rt.eprint(HELP)?;
+                rt.eprint(help_text(rt.alloc())?)?;
             }
             Failure::Unread(unread) => rt.eprintln(unread)?,
             Failure::Refused(name, fault) => {
                 let refused = Refused(fault);
                 eprintln!(rt; "{name}: {refused}")?;
             }
-            Failure::Taken(name) => {
-                eprintln!(rt; "{name}: is there already; it is written over only with --force")?;
-            }
-            Failure::Unwritten(name, error) => {
-                eprintln!(rt; "{name}: cannot be written: {error}")?;
-            }
+            Failure::Unwritten(unwritten) => rt.eprintln(unwritten)?,
             Failure::Told => {}
             Failure::Io(error) => return Err(error),
         }

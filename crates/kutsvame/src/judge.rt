@@ -3,11 +3,13 @@ ghost use Rattle.std.specs.Prelude.{◌≡◌, IfOk, string_bytes};
 ghost use Rattle.format.specs.Judging.{judged};
 ghost use Rattle.kutsvame.specs.Lines.{keys_of, verdict_text};
 
-use crate::failure::{Failure, read_file};
+use crate::failure::Failure;
+use crate::progress::Progress;
 use faults::Fault;
 use format::{Layout, judge};
 use printed::{block_table, key_list};
 use reader::JudgedFile;
+use session::read_file;
 use std::alloc::{AllocError, Global};
 use std::io;
 
@@ -75,7 +77,11 @@ fn judge_file(rt: &HostRuntime, name: &str) -> io::Result<bool> {
 /// Prints a line for each file; fails, once all are judged, if one of them is refused or cannot be read.
 pub fn judge_files<'a>(rt: &HostRuntime, names: &'a [String]) -> Result<(), Failure<'a>> {
     let mut outcome = Ok(());
+    let mut progress = Progress::start(rt);
     for name in names {
+        if progress.is_due(rt) {
+            let _ = eprintln!(rt; "kutsvame: {name}");
+        }
         if !judge_file(rt, name.as_str())? {
             outcome = Err(Failure::Told);
         }

@@ -12,6 +12,12 @@ pub enum Verb {
     Row,
     /// Make a new file from a script.
     Draft,
+    /// Make the calls of a script.
+    Run,
+    /// Write a file anew in the next version.
+    Raise,
+    /// Write a file anew with one block more.
+    Add,
     /// Print the help text.
     Help,
 }
@@ -28,6 +34,9 @@ impl Verb {
             "show" => Some(Verb::Show),
             "row" => Some(Verb::Row),
             "draft" => Some(Verb::Draft),
+            "run" => Some(Verb::Run),
+            "raise" => Some(Verb::Raise),
+            "add" => Some(Verb::Add),
             "help" | "--help" | "-h" => Some(Verb::Help),
             _ => None,
         }
@@ -36,3 +45,14 @@ impl Verb {
 
 /// The level of a reader that is given none: the highest.
 pub const LEVEL: usize = 6;
+
+/// How many bytes the buffer may have at most in which a file is drafted or changed.
+pub const MOST: usize = 1073741824;
+
+/// The words before a last `--force`, and whether it is there.
+pub fn split_force(words: &[String]) -> (&[String], bool) {
+    match words.split_last() {
+        Some((last, others)) if last.as_str() == "--force" => (others, true),
+        _ => (words, false),
+    }
+}

@@ -1,5 +1,6 @@
 pub mod Misread
 pub mod Numbers
 pub mod Records
+pub mod Written
 pub mod Words
 pub mod Literal

@@ -5,10 +5,12 @@ mod from_words;
 mod literal;
 mod misread;
 mod numbers;
+mod to_words;
 mod words;
 
 pub use from_words::FromWords;
 pub use literal::{Literal, hexadecimal, key_of};
 pub use misread::Misread;
 pub use numbers::Number;
+pub use to_words::ToWords;
 pub use words::Words;

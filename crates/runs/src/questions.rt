@@ -1,0 +1,175 @@
+//! The questions about a working file, as the words of a line ask them.
+ghost use Rattle.std.specs.Prelude.{◌≡◌, ⊤, IfOk};
+ghost use Rattle.editor.specs.Calls.{view, file as file_of};
+ghost use Rattle.runs.specs.Asked.{first, second, third, told_start, told_field, told_row, told_block, Told};
+ghost use Rattle.reader.specs.Answers.{version_answer};
+ghost use Rattle.session.specs.Outcome.{number_or_refused};
+
+use crate::calls::Question;
+use editor::WorkingFile;
+use kinds::Kind;
+use reader::{Entry, RowAt};
+use script::{FromWords, Misread, ToWords, Words};
+use session::{
+    ForKind, Misdone, Outcome, by_key, entries_text, only_number, patterns_text, reading_text,
+};
+use std::alloc::{AllocError, Global};
+
+/// A block that is looked at as a kind.
+#[derive(Drop)]
+struct BlockToRead<'c, 'f> {
+    heap: Global,
+    file: &'c WorkingFile<'f>,
+    number: usize,
+}
+
+impl<'c, 'f> ForKind for BlockToRead<'c, 'f> {
+    type Output = Result<Outcome, AllocError>;
+
+    ghost gives = { λ call key outcome. ⊤ };
+
+    fn of<K: Kind>(self) -> Result<Outcome, AllocError>
+    where
+        K::Record: FromWords + ToWords,
+    {
+        match self.file.look::<K>(self.number) {
+            Ok(reading) => Ok(Outcome::Words(reading_text(self.heap, reading)?)),
+            Err(fault) => Ok(Outcome::Refused(fault)),
+        }
+    }
+}
+
+/// Looks at a block.
+fn look<'a>(
+    heap: Global,
+    file: &WorkingFile<'_>,
+    mut words: Words<'a>,
+) -> Result<Outcome, Misdone<'a>> {
+    let number = words.number()?;
+    let word = words.next().ok_or(Misread::WordMissing)?;
+    words.end()?;
+    let block = BlockToRead { heap, file, number };
+    Ok(by_key(word, block).ok_or(Misread::NoKind)??)
+}
+
+/// The row that the next three words ask for: level, cell and row.
+fn next_row(words: &mut Words) -> Result<RowAt, Misread>
+    ensures { IfOk result (λ at. (at.level ≡ first words.old.rest.now) × (at.cell ≡ second words.old.rest.now) × (at.row ≡ third words.old.rest.now)) }
+{
+    Ok(RowAt {
+        level: words.number()?,
+        cell: words.number()?,
+        row: words.number()?,
+    })
+}
+
+/// Place and length of a row.
+fn row<'a>(file: &WorkingFile<'_>, mut words: Words<'a>) -> Result<Outcome, Misdone<'a>>
+    ensures { IfOk result (λ told. told ≡ told_row (file_of (view file.now)) words.entry.rest.now) }
+{
+    let at = next_row(&mut words)?;
+    words.end()?;
+    Ok(file.row(at).into())
+}
+
+/// How many numbers a row has; 0 where it is refused.
+fn count_numbers(file: &WorkingFile<'_>, at: RowAt) -> usize {
+    match file.row(at) {
+        Ok((_, length)) => length / 4,
+        Err(_) => 0,
+    }
+}
+
+/// The patterns of a row, by way of a list of so many numbers.
+fn numbers<'a>(
+    heap: Global,
+    file: &WorkingFile<'_>,
+    mut words: Words<'a>,
+) -> Result<Outcome, Misdone<'a>> {
+    let at = next_row(&mut words)?;
+    let mut list = vec![in heap; 0u32; only_number(words)?]?;
+    if let Err(fault) = file.numbers(at, list.as_mut_slice()) {
+        return Ok(Outcome::Refused(fault));
+    }
+    let filled = list.get(..count_numbers(file, at)).unwrap_or(&[]);
+    Ok(Outcome::Words(patterns_text(heap, filled)?))
+}
+
+/// The blocks of the file, by way of a table of so many entries.
+fn table<'a>(
+    heap: Global,
+    file: &WorkingFile<'_>,
+    words: Words<'a>,
+) -> Result<Outcome, Misdone<'a>> {
+    let none = Entry {
+        key: 0,
+        place: 0,
+        size: 0,
+    };
+    let mut entries = vec![in heap; none; only_number(words)?]?;
+    match file.table(entries.as_mut_slice()) {
+        Ok(count) => {
+            let filled = entries.get(..count).unwrap_or(&[]);
+            Ok(Outcome::Words(entries_text(heap, filled)?))
+        }
+        Err(fault) => Ok(Outcome::Refused(fault)),
+    }
+}
+
+/// The pattern of a field.
+fn field<'a>(file: &WorkingFile<'_>, mut words: Words<'a>) -> Result<Outcome, Misdone<'a>>
+    ensures { IfOk result (λ told. told ≡ told_field (file_of (view file.now)) words.entry.rest.now) }
+{
+    let level = words.number()?;
+    let number = only_number(words)?;
+    Ok(
+        file.field(level, number)
+            .map(|pattern| pattern as usize)
+            .into(),
+    )
+}
+
+/// A block, by its head.
+fn block<'a>(file: &WorkingFile<'_>, mut words: Words<'a>) -> Result<Outcome, Misdone<'a>>
+    ensures { IfOk result (λ told. told ≡ told_block (file_of (view file.now)) words.entry.rest.now) }
+{
+    let level = words.number()?;
+    let number = only_number(words)?;
+    Ok(file.block(level, number).into())
+}
+
+/// The file's version.
+fn version<'a>(file: &WorkingFile<'_>, words: Words<'a>) -> Result<Outcome, Misdone<'a>>
+    ensures { IfOk result (λ told. told ≡ number_or_refused (version_answer (file_of (view file.now)))) }
+{
+    words.end()?;
+    Ok(file.version().map(|version| version as usize).into())
+}
+
+/// Where a reader of a level finds the data.
+fn start<'a>(file: &WorkingFile<'_>, words: Words<'a>) -> Result<Outcome, Misdone<'a>>
+    ensures { IfOk result (λ told. told ≡ told_start (file_of (view file.now)) words.entry.rest.now) }
+{
+    Ok(file.start(only_number(words)?).into())
+}
+
+/// Answers a question.
+pub(crate) fn ask<'a>(
+    heap: Global,
+    file: &WorkingFile<'_>,
+    question: Question,
+    words: Words<'a>,
+) -> Result<Outcome, Misdone<'a>>
+    ensures { IfOk result (Told question (file_of (view file.now)) words.entry.rest.now) }
+{
+    match question {
+        Question::Version => version(file, words),
+        Question::Start => start(file, words),
+        Question::Field => field(file, words),
+        Question::Row => row(file, words),
+        Question::Numbers => numbers(heap, file, words),
+        Question::Block => block(file, words),
+        Question::Look => look(heap, file, words),
+        Question::Table => table(heap, file, words),
+    }
+}

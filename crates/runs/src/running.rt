@@ -1,0 +1,222 @@
+//! A run: the working file and the draft that the lines of a script act on.
+use crate::calls::Call;
+use crate::working::Working;
+use draft::Start;
+use faults::Fault;
+use format::judge;
+use script::{Misread, Words};
+use session::{
+    Drafting, Line, Misdone, Outcome, Room, all_numbers, bytes_text, only_bytes, only_number,
+    write_whole,
+};
+
+/// A draft that is open, in a buffer of its own.
+struct Opened {
+    drafting: Drafting,
+    room: Room,
+}
+
+/// A working file and a draft, as far as they are made. It is no `Drop`, as a draft is none: whoever has it ends it.
+pub struct Session {
+    working: Option<Working>,
+    draft: Option<Opened>,
+}
+
+/// What a call leaves: the session, and how the call came out, or why the line is not done.
+type Called<'a> = (Session, Result<Outcome, Misdone<'a>>);
+
+/// How making a buffer came out, by how many bytes its file has.
+fn held(size: usize) -> Outcome {
+    match size {
+        0 => Outcome::NoFile,
+        size => Outcome::Held(size),
+    }
+}
+
+/// Judges the bytes that the only word says.
+fn judge_bytes<'a>(rt: &HostRuntime, words: Words<'a>) -> Result<Outcome, Misdone<'a>> {
+    Ok(judge(only_bytes(rt, words)?.as_slice()).into())
+}
+
+/// A buffer of so many bytes, as the first word says, that begins with the bytes that the other says; zeros stand behind.
+fn make<'a>(rt: &HostRuntime, mut words: Words<'a>) -> Result<Working, Misdone<'a>> {
+    let most = words.number()?;
+    let mut bytes = only_bytes(rt, words)?;
+    let size = bytes.len();
+    bytes.resize(most, 0)?;
+    Ok(Working::of(Room { bytes, most }, size))
+}
+
+/// Writes the file under the name that the first word is, in place of another only where `--force` stands behind.
+fn save<'a>(rt: &HostRuntime, working: &Working, line: Line<'a>) -> Result<Outcome, Misdone<'a>> {
+    let mut words = line.words;
+    let name = words.next().ok_or(Misread::WordMissing)?;
+    let over = match words.next() {
+        None => false,
+        Some("--force") => true,
+        Some(_) => return Err(Misdone::Misread(Misread::WordTooMany)),
+    };
+    words.end()?;
+    let bytes = working.file();
+    if bytes.is_empty() {
+        return Err(Misdone::NoFile(line.verb));
+    }
+    write_whole(rt, name, bytes, over)?;
+    Ok(Outcome::Number(bytes.len()))
+}
+
+/// The bytes of the buffer that the words ask for: from which, and how many.
+fn show_bytes<'a>(
+    rt: &HostRuntime,
+    working: &Working,
+    mut words: Words<'a>,
+) -> Result<Outcome, Misdone<'a>> {
+    let from = words.number()?;
+    let count = only_number(words)?;
+    Ok(Outcome::Words(bytes_text(rt.alloc(), working.bytes(from, count))?))
+}
+
+/// Makes a call of the working file.
+fn call_working<'a>(
+    rt: &HostRuntime,
+    working: &mut Working,
+    call: Call,
+    line: Line<'a>,
+) -> Result<Outcome, Misdone<'a>> {
+    match call {
+        Call::Change(edit) => working.edit(rt, edit, line.words),
+        Call::Ask(question) => working.ask(rt.alloc(), question, line.words),
+        Call::Bytes => show_bytes(rt, working, line.words),
+        Call::Save => save(rt, working, line),
+        _ => Err(Misdone::NoCall(line.verb)),
+    }
+}
+
+/// Begins a draft, as the words say: the capacity of its buffer, what it begins with, and its values.
+fn begin<'a>(rt: &HostRuntime, mut words: Words<'a>) -> Result<Result<Opened, Fault>, Misdone<'a>> {
+    let capacity = words.number()?;
+    let start = Start {
+        version: words.number()?,
+        kind: words.number()?,
+        bins: words.number()?,
+        ranges: words.number()?,
+    };
+    let values = all_numbers(rt.alloc(), words)?;
+    let mut room = Room::of_zeros(rt.alloc(), capacity, capacity)?;
+    match Drafting::begin(&mut room, start, values.as_slice())? {
+        Ok(drafting) => Ok(Ok(Opened { drafting, room })),
+        Err(fault) => Ok(Err(fault)),
+    }
+}
+
+/// Gives up a draft, if one is open.
+fn give_up(draft: Option<Opened>) {
+    match draft {
+        Some(Opened { drafting, room: _ }) => drafting.give_up(),
+        None => {}
+    }
+}
+
+impl Session {
+    /// A session with no buffer and no draft.
+    pub fn start() -> Session {
+        Session {
+            working: None,
+            draft: None,
+        }
+    }
+
+    /// Ends the session; a draft that is open is given up.
+    pub fn end(self) {
+        let Session { working: _, draft } = self;
+        give_up(draft);
+    }
+
+    /// Makes the working buffer anew.
+    fn make<'a>(self, rt: &HostRuntime, words: Words<'a>) -> Called<'a> {
+        // The old buffer goes before the new one is made, so that there are never two.
+        let Session { working: _, draft } = self;
+        match make(rt, words) {
+            Ok(working) => {
+                let outcome = held(working.size());
+                let working = Some(working);
+                (Session { working, draft }, Ok(outcome))
+            }
+            Err(misdone) => {
+                let working = None;
+                (Session { working, draft }, Err(misdone))
+            }
+        }
+    }
+
+    /// Begins a draft; one that is open is given up before.
+    fn begin<'a>(self, rt: &HostRuntime, words: Words<'a>) -> Called<'a> {
+        let Session { working, draft } = self;
+        give_up(draft);
+        match begin(rt, words) {
+            Ok(Ok(opened)) => {
+                let draft = Some(opened);
+                (Session { working, draft }, Ok(Outcome::Done))
+            }
+            Ok(Err(fault)) => {
+                let draft = None;
+                (Session { working, draft }, Ok(Outcome::Refused(fault)))
+            }
+            Err(misdone) => {
+                let draft = None;
+                (Session { working, draft }, Err(misdone))
+            }
+        }
+    }
+
+    /// Makes a call of the draft; where it closes the draft, the file is the working file from there on.
+    fn step<'a>(self, rt: &HostRuntime, line: Line<'a>) -> Called<'a> {
+        let Session { working, draft } = self;
+        let (drafting, mut room) = match draft {
+            Some(Opened { drafting, room }) => (drafting, room),
+            None => {
+                let draft = None;
+                return (Session { working, draft }, Err(Misdone::NoCall(line.verb)));
+            }
+        };
+        let (drafting, outcome) = drafting.call(rt, &mut room, line);
+        match drafting {
+            Drafting::Closed(length) => {
+                let working = Some(Working::of(room, length));
+                let draft = None;
+                (Session { working, draft }, outcome)
+            }
+            open => {
+                let draft = Some(Opened {
+                    drafting: open,
+                    room,
+                });
+                (Session { working, draft }, outcome)
+            }
+        }
+    }
+
+    /// Makes a call of the working file.
+    fn call_working<'a>(mut self, rt: &HostRuntime, call: Call, line: Line<'a>) -> Called<'a> {
+        let outcome = match &mut self.working {
+            Some(working) => call_working(rt, working, call, line),
+            None => Err(Misdone::NoBuffer(line.verb)),
+        };
+        (self, outcome)
+    }
+
+    /// Makes the call of a line; how it came out, or why the line is not done.
+    pub fn call<'a>(
+        self,
+        rt: &HostRuntime,
+        line: Line<'a>,
+    ) -> (Session, Result<Outcome, Misdone<'a>>) {
+        match Call::named(line.verb) {
+            Call::Judge => (self, judge_bytes(rt, line.words)),
+            Call::Make => self.make(rt, line.words),
+            Call::Begin => self.begin(rt, line.words),
+            Call::Other => self.step(rt, line),
+            call => self.call_working(rt, call, line),
+        }
+    }
+}

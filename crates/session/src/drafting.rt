@@ -1,0 +1,217 @@
+//! The calls that make a draft, as the lines of a script.
+ghost use Rattle.std.specs.Prelude.{⊤};
+
+use crate::bytes::{last_text, next_bytes, only_bytes};
+use crate::lines::{Line, Misdone};
+use crate::named::{ForKind, by_key};
+use crate::outcome::Outcome;
+use crate::room::Room;
+use draft::{BlockStage, CellStage, Start};
+use faults::Fault;
+use kinds::Kind;
+use script::{FromWords, Misread, ToWords, Words, key_of};
+use std::alloc::AllocError;
+
+/// The stage of a draft. It is no `Drop`, as the stages in it: whoever has it ends it, or gives it up.
+pub enum Drafting {
+    /// Blocks are put behind the header.
+    Blocks(BlockStage),
+    /// Cells are laid behind the blocks.
+    Cells(CellStage),
+    /// The draft is closed, with so many bytes.
+    Closed(usize),
+}
+
+/// What a call leaves: the stage of the draft, and how the call came out.
+type Stepped<'a> = (Drafting, Result<Outcome, Misdone<'a>>);
+
+/// A block that is to be put, whose numbers and text the words say.
+#[derive(Drop)]
+struct BlockToPut<'c, 'a> {
+    rt: &'c HostRuntime,
+    stage: &'c mut BlockStage,
+    room: &'c mut Room,
+    words: Words<'a>,
+}
+
+impl<'c, 'a> ForKind for BlockToPut<'c, 'a> {
+    type Output = Result<Outcome, Misdone<'a>>;
+
+    ghost gives = { λ call key outcome. ⊤ };
+
+    fn of<K: Kind>(self) -> Result<Outcome, Misdone<'a>>
+    where
+        K::Record: FromWords + ToWords,
+    {
+        let BlockToPut {
+            rt,
+            stage,
+            room,
+            mut words,
+        } = self;
+        let record = K::Record::from_words(&mut words)?;
+        let text = last_text(rt, words)?;
+        let outcome = stage.put::<K>(room.bytes.as_mut_slice(), record, text.as_slice());
+        if room.grow(outcome)? {
+            let outcome = stage.put::<K>(room.bytes.as_mut_slice(), record, text.as_slice());
+            return Ok(outcome.into());
+        }
+        Ok(outcome.into())
+    }
+}
+
+/// Puts a block of the kind that the first word names.
+fn put<'a>(
+    rt: &HostRuntime,
+    stage: &mut BlockStage,
+    room: &mut Room,
+    mut words: Words<'a>,
+) -> Result<Outcome, Misdone<'a>> {
+    let word = words.next().ok_or(Misread::WordMissing)?;
+    let block = BlockToPut {
+        rt,
+        stage,
+        room,
+        words,
+    };
+    by_key(word, block).ok_or(Misread::NoKind)?
+}
+
+/// Puts a block whose key and data the words say.
+fn put_raw<'a>(
+    rt: &HostRuntime,
+    stage: &mut BlockStage,
+    room: &mut Room,
+    mut words: Words<'a>,
+) -> Result<Outcome, Misdone<'a>> {
+    let key = key_of(next_bytes(rt, &mut words)?.as_slice())?;
+    let body = only_bytes(rt, words)?;
+    let outcome = stage.carry(room.bytes.as_mut_slice(), key, body.as_slice());
+    if room.grow(outcome)? {
+        let outcome = stage.carry(room.bytes.as_mut_slice(), key, body.as_slice());
+        return Ok(outcome.into());
+    }
+    Ok(outcome.into())
+}
+
+/// Lays a cell.
+fn lay_cell<'a>(stage: CellStage, room: &mut Room, cell: &[u8]) -> Stepped<'a> {
+    let (stage, outcome) = stage.lay(room.bytes.as_mut_slice(), cell);
+    match room.grow(outcome) {
+        Ok(false) => (Drafting::Cells(stage), Ok(outcome.into())),
+        Ok(true) => {
+            let (stage, outcome) = stage.lay(room.bytes.as_mut_slice(), cell);
+            (Drafting::Cells(stage), Ok(outcome.into()))
+        }
+        Err(error) => (Drafting::Cells(stage), Err(error.into())),
+    }
+}
+
+/// Lays the cell whose bytes the only word says.
+fn lay<'a>(rt: &HostRuntime, stage: CellStage, room: &mut Room, words: Words<'a>) -> Stepped<'a> {
+    match only_bytes(rt, words) {
+        Ok(cell) => lay_cell(stage, room, cell.as_slice()),
+        Err(misdone) => (Drafting::Cells(stage), Err(misdone)),
+    }
+}
+
+/// Turns from blocks to cells.
+fn turn(stage: BlockStage, words: Words<'_>) -> Stepped<'_> {
+    match words.end() {
+        Ok(()) => (Drafting::Cells(stage.turn()), Ok(Outcome::Done)),
+        Err(misread) => (Drafting::Blocks(stage), Err(misread.into())),
+    }
+}
+
+/// Closes a draft.
+fn close(stage: CellStage, words: Words<'_>) -> Stepped<'_> {
+    if let Err(misread) = words.end() {
+        return (Drafting::Cells(stage), Err(misread.into()));
+    }
+    match stage.close() {
+        Ok(length) => (Drafting::Closed(length), Ok(Outcome::Number(length))),
+        Err((fault, stage)) => (Drafting::Cells(stage), Ok(Outcome::Refused(fault))),
+    }
+}
+
+/// Makes the call of a line among those of the stage of blocks.
+fn call_blocks<'a>(
+    rt: &HostRuntime,
+    mut stage: BlockStage,
+    room: &mut Room,
+    line: Line<'a>,
+) -> Stepped<'a> {
+    match line.verb {
+        "put" => {
+            let outcome = put(rt, &mut stage, room, line.words);
+            (Drafting::Blocks(stage), outcome)
+        }
+        "put-raw" => {
+            let outcome = put_raw(rt, &mut stage, room, line.words);
+            (Drafting::Blocks(stage), outcome)
+        }
+        "turn" => turn(stage, line.words),
+        _ => (Drafting::Blocks(stage), Err(Misdone::NoCall(line.verb))),
+    }
+}
+
+/// Makes the call of a line among those of the stage of cells.
+fn call_cells<'a>(
+    rt: &HostRuntime,
+    stage: CellStage,
+    room: &mut Room,
+    line: Line<'a>,
+) -> Stepped<'a> {
+    match line.verb {
+        "lay" => lay(rt, stage, room, line.words),
+        "close" => close(stage, line.words),
+        _ => (Drafting::Cells(stage), Err(Misdone::NoCall(line.verb))),
+    }
+}
+
+/// What a begin comes to: the draft or its refusal, if there is memory.
+fn begun(room: &mut Room, start: Start, values: &[u32]) -> Result<Drafting, Fault> {
+    Ok(Drafting::Blocks(BlockStage::begin(room.bytes.as_mut_slice(), start, values)?))
+}
+
+impl Drafting {
+    /// Begins a draft in a buffer that grows as it must; refuses as `BlockStage::begin` does.
+    pub fn begin(
+        room: &mut Room,
+        start: Start,
+        values: &[u32],
+    ) -> Result<Result<Drafting, Fault>, AllocError> {
+        match begun(room, start, values) {
+            Ok(drafting) => Ok(Ok(drafting)),
+            Err(fault) => {
+                if room.grow(Err(fault))? {
+                    return Ok(begun(room, start, values));
+                }
+                Ok(Err(fault))
+            }
+        }
+    }
+
+    /// Makes the call of a line; the stage after it, and how the call came out, or why the line is not done.
+    pub fn call<'a>(
+        self,
+        rt: &HostRuntime,
+        room: &mut Room,
+        line: Line<'a>,
+    ) -> (Drafting, Result<Outcome, Misdone<'a>>) {
+        match self {
+            Drafting::Blocks(stage) => call_blocks(rt, stage, room, line),
+            Drafting::Cells(stage) => call_cells(rt, stage, room, line),
+            Drafting::Closed(length) => (Drafting::Closed(length), Err(Misdone::NoCall(line.verb))),
+        }
+    }
+
+    /// Ends a draft as it is.
+    pub fn give_up(self) {
+        match self {
+            Drafting::Blocks(stage) => stage.give_up(),
+            Drafting::Cells(stage) => stage.give_up(),
+            Drafting::Closed(_) => {}
+        }
+    }
+}

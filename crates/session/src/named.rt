@@ -1,0 +1,43 @@
+//! The kinds of block, by the words that name them.
+ghost use Rattle.std.specs.Prelude.{ℕ, List};
+ghost use Rattle.session.specs.Named.{ByKey};
+
+use kinds::Kind;
+use records::{Fill, Fwin, Glrm, Loca, Rcvi, Supi, Time};
+use script::{FromWords, ToWords};
+use texts::{City, Sitd, Tool, Zone};
+
+/// What is to be done with a kind, whichever it is.
+pub trait ForKind: Drop {
+    /// What comes of it.
+    type Output;
+
+    ghost gives: { Self → List ℕ → Self.Output → Type 0 };
+
+    /// Does it with a kind.
+    fn of<K: Kind>(self) -> Self::Output
+    where
+        K::Record: FromWords + ToWords,
+        ensures { gives self K.kind.key result };
+}
+
+/// Does it with the kind whose key a word is; nothing where the word is the key of no kind.
+pub fn by_key<C: ForKind>(word: &str, call: C) -> Option<C::Output>
+    ensures { ByKey (C.gives call) word.now result }
+{
+    // A match and no table: each arm is a call at a type of its own.
+    match word {
+        "TIME" => Some(call.of::<Time>()),
+        "LOCA" => Some(call.of::<Loca>()),
+        "RCVI" => Some(call.of::<Rcvi>()),
+        "GLRM" => Some(call.of::<Glrm>()),
+        "SUPI" => Some(call.of::<Supi>()),
+        "FWIN" => Some(call.of::<Fwin>()),
+        "FILL" => Some(call.of::<Fill>()),
+        "ZONE" => Some(call.of::<Zone>()),
+        "CITY" => Some(call.of::<City>()),
+        "TOOL" => Some(call.of::<Tool>()),
+        "SITD" => Some(call.of::<Sitd>()),
+        _ => None,
+    }
+}
