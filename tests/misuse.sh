@@ -1,15 +1,22 @@
 #!/usr/bin/env bash
-# What the compiler turns down: a draft that is used against its stages. Each case puts one line into a copy of the draft's client, and wants
-# one error of the compiler for it, and no other.
+# What the compiler turns down: a draft that is used against its stages. Each case puts one line
+# into a copy of the draft's client, and wants one error of the compiler for it, and no other.
+# Nothing is proved.
 set -u
 top=$(cd "$(dirname "$0")/.." && pwd)
 client=crates/draft/src/drafting.rt
 copy=$(mktemp -d)
 trap 'rm -rf "$copy"' EXIT
 tar -C "$top" --exclude=out -cf - crates.txt crates | tar -C "$copy" -xf - || exit 1
+# over a library that was never built, rt check first reads the sources alone, and goes no further
+# where they have an error
+mkdir -p "$copy/crates/never_built/src"
+echo '#![tactic(auto)]' >"$copy/crates/never_built/src/lib.rt"
+sed -i -e 's/^draft:/draft: never_built/' -e '$a never_built:' "$copy/crates.txt"
 failed=0
 
-# turned_down ERROR PLACE LINE: with LINE before the one line that is PLACE, the client is refused by ERROR alone
+# turned_down ERROR PLACE LINE: with LINE before the one line that is PLACE, the client is refused
+# by ERROR alone
 turned_down() {
   local error=$1 place=$2 line=$3 said
   if [ "$(grep -cxF -- "$place" "$top/$client")" != 1 ]; then
@@ -36,7 +43,8 @@ put='draft.put::<K>(buffer, value, parts.text);'
 carry='draft.carry(buffer, parts.key, parts.body);'
 lay='draft.lay(buffer, parts.cell);'
 
-# a block put or carried after the turn: the cell stage has no such call, and the block stage is used up
+# a block put or carried after the turn: the cell stage has no such call, and the block stage is
+# used up
 turned_down 'unknown-method\]: no method named `put` found for type `CellStage`' "$close" "    let _ = $put"
 turned_down 'unknown-method\]: no method named `carry` found for type `CellStage`' "$close" "    let _ = $carry"
 turned_down 'borrow-e0382\]: .*moved value: `draft`' "$end" "    let mut draft = $begin let turned = draft.turn(); let _ = $put turned.give_up();"
