@@ -2,7 +2,7 @@
 ghost use Rattle.std.specs.Prelude.{IfOk, string_bytes, ◌≡◌};
 ghost use Rattle.kutsvame.specs.Lines.{raised_text, added_text};
 
-use crate::failure::{Failure, read_accepted};
+use crate::command_error::{CommandError, read_accepted};
 use crate::judge::judge_bytes;
 use crate::words::{MOST, split_force};
 use format::{Layout, judge};
@@ -25,7 +25,10 @@ struct Request<'a> {
 }
 
 /// What the words IN OUT WORD... [--force] ask for.
-fn request_of<'a>(verb: &'static str, words: &'a [String]) -> Result<Request<'a>, Failure<'a>> {
+fn request_of<'a>(
+    verb: &'static str,
+    words: &'a [String],
+) -> Result<Request<'a>, CommandError<'a>> {
     let (words, over) = split_force(words);
     match words {
         [from, to, words @ ..] => Ok(Request {
@@ -34,7 +37,7 @@ fn request_of<'a>(verb: &'static str, words: &'a [String]) -> Result<Request<'a>
             over,
             words,
         }),
-        _ => Err(Failure::Misused("wrong count of words", verb)),
+        _ => Err(CommandError::Misused("wrong count of words", verb)),
     }
 }
 
@@ -54,18 +57,18 @@ fn change<'a>(
     verb: &'static str,
     edit: Edit,
     request: Request<'a>,
-) -> Result<(Working, Layout), Failure<'a>> {
+) -> Result<(Working, Layout), CommandError<'a>> {
     check_free(rt, request.to, request.over)?;
     let (bytes, layout) = read_accepted(rt, request.from)?;
     let size = bytes.len();
     let mut working = Working::of(Room { bytes, most: MOST }, size);
     let line = line_of(rt.alloc(), request.words)?;
     match working.edit(rt, edit, Words::of(line.as_str())) {
-        Ok(Outcome::Refused(fault)) => Err(Failure::Refused(request.from, fault)),
+        Ok(Outcome::Refused(fault)) => Err(CommandError::Refused(request.from, fault)),
         Ok(_) => Ok((working, layout)),
-        Err(misdone) => {
-            eprintln!(rt; "kutsvame: {verb}: {misdone}")?;
-            Err(Failure::Told)
+        Err(error) => {
+            eprintln!(rt; "kutsvame: {verb}: {error}")?;
+            Err(CommandError::Reported)
         }
     }
 }
@@ -76,7 +79,7 @@ fn write_changed<'a>(
     request: Request<'a>,
     file: &[u8],
     done: &str,
-) -> Result<(), Failure<'a>> {
+) -> Result<(), CommandError<'a>> {
     write_whole(rt, request.to, file, request.over)?;
     rt.println(done)?;
     judge_bytes(rt, request.to, file)?;
@@ -110,11 +113,11 @@ fn added_line(
 }
 
 /// Does what the words IN OUT VALUE... [--force] ask.
-pub fn raise_words<'a>(rt: &HostRuntime, words: &'a [String]) -> Result<(), Failure<'a>> {
+pub fn raise_words<'a>(rt: &HostRuntime, words: &'a [String]) -> Result<(), CommandError<'a>> {
     let request = request_of("raise", words)?;
     let (working, layout) = change(rt, "raise", Edit::Raise, request)?;
     let file = working.file();
-    let now = judge(file).map_err(|fault| Failure::Refused(request.to, fault))?;
+    let now = judge(file).map_err(|fault| CommandError::Refused(request.to, fault))?;
     let done = raised_line(
         rt.alloc(),
         request.to,
@@ -126,14 +129,14 @@ pub fn raise_words<'a>(rt: &HostRuntime, words: &'a [String]) -> Result<(), Fail
 }
 
 /// Does what the words IN OUT KIND NUMBER... [TEXT] [--force] ask.
-pub fn add_words<'a>(rt: &HostRuntime, words: &'a [String]) -> Result<(), Failure<'a>> {
+pub fn add_words<'a>(rt: &HostRuntime, words: &'a [String]) -> Result<(), CommandError<'a>> {
     let request = request_of("add", words)?;
     let Some(kind) = request.words.first() else {
-        return Err(Failure::Misused("wrong count of words", "add"));
+        return Err(CommandError::Misused("wrong count of words", "add"));
     };
     let (working, _) = change(rt, "add", Edit::Add, request)?;
     let file = working.file();
-    let now = judge(file).map_err(|fault| Failure::Refused(request.to, fault))?;
+    let now = judge(file).map_err(|fault| CommandError::Refused(request.to, fault))?;
     let done = added_line(
         rt.alloc(),
         request.to,

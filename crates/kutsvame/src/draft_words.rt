@@ -2,11 +2,13 @@
 ghost use Rattle.std.specs.Prelude.{◌≡◌, IfOk, IfErr, IsNone, MatchOption};
 ghost use Rattle.session.specs.declared.drafting.Drafting.TheVariants.{Closed};
 
-use crate::failure::{Failure, number};
+use crate::command_error::{CommandError, number};
 use crate::judge::judge_bytes;
 use crate::words::{MOST, split_force};
 use draft::Start;
-use session::{Answer, Drafting, Line, Misdone, Outcome, Room, Undone, check_free, write_whole};
+use session::{
+    Answer, CallError, Drafting, Line, Outcome, Room, ScriptError, check_free, write_whole,
+};
 use std::alloc::{AllocError, Global};
 use std::io;
 use std::io::Read;
@@ -28,7 +30,7 @@ struct Request<'a> {
 }
 
 /// What the words OUT VERSION KIND BINS RANGES VALUE... [--force] ask for.
-fn request_of<'a>(words: &'a [String]) -> Result<Request<'a>, Failure<'a>> {
+fn request_of<'a>(words: &'a [String]) -> Result<Request<'a>, CommandError<'a>> {
     let (words, over) = split_force(words);
     match words {
         [name, version, kind, bins, ranges, values @ ..] => Ok(Request {
@@ -42,12 +44,12 @@ fn request_of<'a>(words: &'a [String]) -> Result<Request<'a>, Failure<'a>> {
             },
             values,
         }),
-        _ => Err(Failure::Misused("wrong count of words", "draft")),
+        _ => Err(CommandError::Misused("wrong count of words", "draft")),
     }
 }
 
 /// The numbers that the words write.
-fn numbers<'a>(heap: Global, words: &'a [String]) -> Result<Vec<u32>, Failure<'a>> {
+fn numbers<'a>(heap: Global, words: &'a [String]) -> Result<Vec<u32>, CommandError<'a>> {
     let mut values = Vec::new(heap);
     for word in words {
         values
@@ -77,7 +79,7 @@ fn begin<'s>(
     room: &mut Room,
     start: Start,
     values: &[u32],
-) -> Result<Drafting, Misdone<'s>> {
+) -> Result<Drafting, CallError<'s>> {
     let verb = "begin";
     match Drafting::begin(room, start, values)? {
         Ok(drafting) => match print_outcome(rt, 0, verb, Outcome::Done) {
@@ -89,7 +91,7 @@ fn begin<'s>(
         },
         Err(fault) => {
             print_outcome(rt, 0, verb, Outcome::Refused(fault))?;
-            Err(Misdone::Refused(verb))
+            Err(CallError::Refused(verb))
         }
     }
 }
@@ -98,13 +100,13 @@ fn begin<'s>(
 fn print_call<'s>(
     rt: &HostRuntime,
     line: Line<'s>,
-    called: Result<Outcome, Misdone<'s>>,
-) -> Result<(), Misdone<'s>> {
+    called: Result<Outcome, CallError<'s>>,
+) -> Result<(), CallError<'s>> {
     let outcome = called?;
     let refused = matches!(&outcome, Outcome::Refused(_));
     print_outcome(rt, line.number, line.verb, outcome)?;
     if refused {
-        return Err(Misdone::Refused(line.verb));
+        return Err(CallError::Refused(line.verb));
     }
     Ok(())
 }
@@ -116,37 +118,37 @@ fn step<'s>(
     room: &mut Room,
     number: usize,
     bytes: &'s [u8],
-) -> (Drafting, Result<(), Misdone<'s>>) {
+) -> (Drafting, Result<(), CallError<'s>>) {
     match Line::read(number, bytes) {
         Ok(None) => (drafting, Ok(())),
         Ok(Some(line)) => {
             let (drafting, called) = drafting.call(rt, room, line);
             (drafting, print_call(rt, line, called))
         }
-        Err(misdone) => (drafting, Err(misdone)),
+        Err(error) => (drafting, Err(error)),
     }
 }
 
 /// The length of a draft that is closed, if no call was refused; else the line that was refused, or the last, of that number.
 fn finish<'s>(
     drafting: Drafting,
-    refused: Option<Undone<'s>>,
+    refused: Option<ScriptError<'s>>,
     last: usize,
-) -> Result<usize, Undone<'s>>
+) -> Result<usize, ScriptError<'s>>
     ensures closed { IfOk result (λ length. (drafting ≡ Closed length) × IsNone refused.entry) }
-    ensures told { IfErr result (λ undone. MatchOption refused.entry (undone.line ≡ last) (λ first. undone.line ≡ first.line)) }
+    ensures told { IfErr result (λ error. MatchOption refused.entry (error.line ≡ last) (λ first. error.line ≡ first.line)) }
 {
     match (drafting, refused) {
         (Drafting::Closed(length), None) => Ok(length),
-        (open, Some(undone)) => {
+        (open, Some(error)) => {
             open.give_up();
-            Err(undone)
+            Err(error)
         }
         (open, None) => {
             open.give_up();
-            Err(Undone {
+            Err(ScriptError {
                 line: last,
-                why: Misdone::Last,
+                why: CallError::Last,
             })
         }
     }
@@ -159,7 +161,7 @@ fn follow<'s>(
     mut drafting: Drafting,
     room: &mut Room,
     script: &'s [u8],
-) -> Result<usize, Undone<'s>> {
+) -> Result<usize, ScriptError<'s>> {
     let mut refused = None;
     let mut last = 0;
     for (number, bytes) in (1..).zip(script.split_inclusive(|byte| *byte == b'\n')) {
@@ -168,15 +170,15 @@ fn follow<'s>(
         drafting = next;
         match outcome {
             Ok(()) => {}
-            Err(Misdone::Refused(verb)) => {
-                refused = refused.or(Some(Undone {
+            Err(CallError::Refused(verb)) => {
+                refused = refused.or(Some(ScriptError {
                     line: number,
-                    why: Misdone::Refused(verb),
+                    why: CallError::Refused(verb),
                 }));
             }
             Err(why) => {
                 drafting.give_up();
-                return Err(Undone { line: number, why });
+                return Err(ScriptError { line: number, why });
             }
         }
     }
@@ -191,10 +193,10 @@ fn draft_script<'s>(
     start: Start,
     values: &[u32],
     script: &'s [u8],
-) -> Result<usize, Undone<'s>> {
+) -> Result<usize, ScriptError<'s>> {
     match begin(rt, room, start, values) {
         Ok(drafting) => follow(rt, drafting, room, script),
-        Err(why) => Err(Undone { line: 0, why }),
+        Err(why) => Err(ScriptError { line: 0, why }),
     }
 }
 
@@ -203,16 +205,16 @@ fn write_draft<'a>(
     rt: &HostRuntime,
     request: Request<'a>,
     bytes: &[u8],
-) -> Result<(), Failure<'a>> {
+) -> Result<(), CommandError<'a>> {
     if !judge_bytes(rt, request.name, bytes)? {
-        return Err(Failure::Told);
+        return Err(CommandError::Reported);
     }
     write_whole(rt, request.name, bytes, request.over)?;
     Ok(())
 }
 
 /// Does what the words OUT VERSION KIND BINS RANGES VALUE... [--force] ask.
-pub fn draft_words<'a>(rt: &HostRuntime, words: &'a [String]) -> Result<(), Failure<'a>> {
+pub fn draft_words<'a>(rt: &HostRuntime, words: &'a [String]) -> Result<(), CommandError<'a>> {
     let request = request_of(words)?;
     let values = numbers(rt.alloc(), request.values)?;
     check_free(rt, request.name, request.over)?;
@@ -222,9 +224,9 @@ pub fn draft_words<'a>(rt: &HostRuntime, words: &'a [String]) -> Result<(), Fail
     let values = values.as_slice();
     match draft_script(rt, &mut room, request.start, values, script.as_slice()) {
         Ok(length) => write_draft(rt, request, room.bytes.get(..length).unwrap_or(&[])),
-        Err(undone) => {
-            eprintln!(rt; "kutsvame: {undone}")?;
-            Err(Failure::Told)
+        Err(error) => {
+            eprintln!(rt; "kutsvame: {error}")?;
+            Err(CommandError::Reported)
         }
     }
 }

@@ -3,7 +3,7 @@ ghost use Rattle.std.specs.Prelude.{◌≡◌, IfOk, string_bytes};
 ghost use Rattle.format.specs.Judging.{judged};
 ghost use Rattle.kutsvame.specs.Lines.{keys_of, verdict_text};
 
-use crate::failure::Failure;
+use crate::command_error::CommandError;
 use crate::progress::Progress;
 use faults::Fault;
 use format::{Layout, judge};
@@ -67,15 +67,15 @@ pub fn judge_bytes(rt: &HostRuntime, name: &str, bytes: &[u8]) -> io::Result<boo
 fn judge_file(rt: &HostRuntime, name: &str) -> io::Result<bool> {
     match read_file(rt, name) {
         Ok(bytes) => judge_bytes(rt, name, bytes.as_slice()),
-        Err(unread) => {
-            rt.println(unread)?;
+        Err(error) => {
+            rt.println(error)?;
             Ok(false)
         }
     }
 }
 
 /// Prints a line for each file; fails, once all are judged, if one of them is refused or cannot be read.
-pub fn judge_files<'a>(rt: &HostRuntime, names: &'a [String]) -> Result<(), Failure<'a>> {
+pub fn judge_files<'a>(rt: &HostRuntime, names: &'a [String]) -> Result<(), CommandError<'a>> {
     let mut outcome = Ok(());
     let mut progress = Progress::start(rt);
     for name in names {
@@ -83,7 +83,7 @@ pub fn judge_files<'a>(rt: &HostRuntime, names: &'a [String]) -> Result<(), Fail
             let _ = eprintln!(rt; "kutsvame: {name}");
         }
         if !judge_file(rt, name.as_str())? {
-            outcome = Err(Failure::Told);
+            outcome = Err(CommandError::Reported);
         }
     }
     outcome

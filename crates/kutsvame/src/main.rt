@@ -4,9 +4,9 @@
 mod blocks_shown;
 mod calls_shown;
 mod change_words;
+mod command_error;
 mod draft_words;
 mod example;
-mod failure;
 mod help;
 mod judge;
 mod progress;
@@ -17,9 +17,9 @@ mod task;
 mod words;
 
 use change_words::{add_words, raise_words};
+use command_error::CommandError;
 use draft_words::draft_words;
 use example::show_example;
-use failure::Failure;
 use help::{help_for, help_text};
 use judge::judge_files;
 use row::row_words;
@@ -31,20 +31,20 @@ use task::show_task;
 use words::Verb;
 
 /// Prints the help text, or its part for the verb that a word names.
-fn help_words<'a>(rt: &HostRuntime, words: &'a [String]) -> Result<(), Failure<'a>> {
+fn help_words<'a>(rt: &HostRuntime, words: &'a [String]) -> Result<(), CommandError<'a>> {
     match words {
         [] => rt.print(help_text(rt.alloc())?)?,
         [word] => match Verb::named(word.as_str()) {
             Some(verb) => rt.print(help_for(verb))?,
-            None => return Err(Failure::Misused("unknown word", word.as_str())),
+            None => return Err(CommandError::Misused("unknown word", word.as_str())),
         },
-        _ => return Err(Failure::Misused("wrong count of words", "help")),
+        _ => return Err(CommandError::Misused("wrong count of words", "help")),
     }
     Ok(())
 }
 
 /// Does what the words ask.
-fn run<'a>(rt: &HostRuntime, words: &'a [String]) -> Result<(), Failure<'a>> {
+fn run<'a>(rt: &HostRuntime, words: &'a [String]) -> Result<(), CommandError<'a>> {
     let Some((word, others)) = words.split_first() else {
         show_task(rt)?;
         show_example(rt)?;
@@ -52,7 +52,7 @@ fn run<'a>(rt: &HostRuntime, words: &'a [String]) -> Result<(), Failure<'a>> {
     };
     match Verb::named(word.as_str()) {
         Some(Verb::Judge) if others.is_empty() => {
-            Err(Failure::Misused("no file is named", word.as_str()))
+            Err(CommandError::Misused("no file is named", word.as_str()))
         }
         Some(Verb::Judge) => judge_files(rt, others),
         Some(Verb::Show) => show_words(rt, others),
@@ -62,7 +62,7 @@ fn run<'a>(rt: &HostRuntime, words: &'a [String]) -> Result<(), Failure<'a>> {
         Some(Verb::Raise) => raise_words(rt, others),
         Some(Verb::Add) => add_words(rt, others),
         Some(Verb::Help) => help_words(rt, others),
-        None => Err(Failure::Misused("unknown word", word.as_str())),
+        None => Err(CommandError::Misused("unknown word", word.as_str())),
     }
 }
 

@@ -1,16 +1,16 @@
 //! The verb run: the calls of a script, which act on a working file and on a draft.
+use crate::command_error::CommandError;
 use crate::draft_words::print_outcome;
-use crate::failure::Failure;
 use crate::progress::Progress;
 use runs::Session;
-use session::{Line, Misdone, Outcome, Undone, read_file};
+use session::{CallError, Line, Outcome, ScriptError, read_file};
 
 /// Prints how the call of a line came out.
 fn print_call<'s>(
     rt: &HostRuntime,
     line: Line<'s>,
-    called: Result<Outcome, Misdone<'s>>,
-) -> Result<(), Misdone<'s>> {
+    called: Result<Outcome, CallError<'s>>,
+) -> Result<(), CallError<'s>> {
     print_outcome(rt, line.number, line.verb, called?)?;
     Ok(())
 }
@@ -21,20 +21,20 @@ fn step<'s>(
     session: Session,
     number: usize,
     bytes: &'s [u8],
-) -> (Session, Result<(), Misdone<'s>>) {
+) -> (Session, Result<(), CallError<'s>>) {
     match Line::read(number, bytes) {
         Ok(None) => (session, Ok(())),
         Ok(Some(line)) => {
             let (session, called) = session.call(rt, line);
             (session, print_call(rt, line, called))
         }
-        Err(misdone) => (session, Err(misdone)),
+        Err(error) => (session, Err(error)),
     }
 }
 
 /// Makes the calls of a script one after the other, also behind a call that is refused, up to a line that is no call; that line, if
 /// there is one.
-fn follow<'s>(rt: &HostRuntime, script: &'s [u8]) -> Result<(), Undone<'s>> {
+fn follow<'s>(rt: &HostRuntime, script: &'s [u8]) -> Result<(), ScriptError<'s>> {
     let mut session = Session::start();
     let mut progress = Progress::start(rt);
     for (number, bytes) in (1..).zip(script.split_inclusive(|byte| *byte == b'\n')) {
@@ -45,7 +45,7 @@ fn follow<'s>(rt: &HostRuntime, script: &'s [u8]) -> Result<(), Undone<'s>> {
         session = next;
         if let Err(why) = outcome {
             session.end();
-            return Err(Undone { line: number, why });
+            return Err(ScriptError { line: number, why });
         }
     }
     session.end();
@@ -53,16 +53,16 @@ fn follow<'s>(rt: &HostRuntime, script: &'s [u8]) -> Result<(), Undone<'s>> {
 }
 
 /// Does what the word SCRIPT asks.
-pub fn run_words<'a>(rt: &HostRuntime, words: &'a [String]) -> Result<(), Failure<'a>> {
+pub fn run_words<'a>(rt: &HostRuntime, words: &'a [String]) -> Result<(), CommandError<'a>> {
     let [name] = words else {
-        return Err(Failure::Misused("wrong count of words", "run"));
+        return Err(CommandError::Misused("wrong count of words", "run"));
     };
     let script = read_file(rt, name.as_str())?;
     match follow(rt, script.as_slice()) {
         Ok(()) => Ok(()),
-        Err(undone) => {
-            eprintln!(rt; "kutsvame: {undone}")?;
-            Err(Failure::Told)
+        Err(error) => {
+            eprintln!(rt; "kutsvame: {error}")?;
+            Err(CommandError::Reported)
         }
     }
 }

@@ -6,17 +6,19 @@ ghost use Rattle.printed.specs.Patterns.{row_patterns, Holds};
 use faults::Fault;
 use reader::{JudgedFile, RowAt};
 use std::alloc::{AllocError, Global};
+use thiserror::Error;
 
 /// Why a row has no list of numbers.
-#[derive(Clone, Copy, PartialEq, Eq, Debug)]
+#[derive(Clone, Copy, PartialEq, Eq, Debug, Error)]
 pub enum RowError {
     /// The row is refused.
+    #[error(transparent)]
     Refused(Fault),
     /// There is no memory for the list.
+    #[error(transparent)]
     OutOfMemory(AllocError),
 }
 
-// Both `From` are written here, since a derived one says in no contract which error it makes.
 impl From<Fault> for RowError {
     ghost from_gives = { λ fault e. e ≡ Refused fault };
 

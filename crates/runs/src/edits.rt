@@ -7,13 +7,13 @@ use crate::calls::Edit;
 use editor::WorkingFile;
 use faults::Fault;
 use kinds::Kind;
-use script::{FromWords, Misread, ToWords, Words, key_of};
+use script::{ArgumentError, FromWords, ToWords, Words, key_of};
 use session::{
-    ForKind, Misdone, all_numbers, by_key, last_text, next_bytes, only_bytes, only_number,
+    CallError, ForKind, all_numbers, by_key, last_text, next_bytes, only_bytes, only_number,
 };
 
 /// What an edit answers, or why its line is not done.
-type Edited<'a> = Result<Result<(), Fault>, Misdone<'a>>;
+type Edited<'a> = Result<Result<(), Fault>, CallError<'a>>;
 
 /// A block of a kind whose numbers and text the words say: a new one, or one in the place of the block of that number.
 #[derive(Drop)]
@@ -55,14 +55,14 @@ fn write_block<'a>(
     number: Option<usize>,
     mut words: Words<'a>,
 ) -> Edited<'a> {
-    let word = words.next().ok_or(Misread::WordMissing)?;
+    let word = words.next().ok_or(ArgumentError::Missing)?;
     let block = BlockToWrite {
         rt,
         file,
         number,
         words,
     };
-    by_key(word, block).ok_or(Misread::NoKind)?
+    by_key(word, block).ok_or(ArgumentError::NoKind)?
 }
 
 /// Carries a block.

@@ -9,9 +9,9 @@ use crate::calls::Question;
 use editor::WorkingFile;
 use kinds::Kind;
 use reader::{Entry, RowAt};
-use script::{FromWords, Misread, ToWords, Words};
+use script::{ArgumentError, FromWords, ToWords, Words};
 use session::{
-    ForKind, Misdone, Outcome, by_key, entries_text, only_number, patterns_text, reading_text,
+    CallError, ForKind, Outcome, by_key, entries_text, only_number, patterns_text, reading_text,
 };
 use std::alloc::{AllocError, Global};
 
@@ -44,16 +44,16 @@ fn look<'a>(
     heap: Global,
     file: &WorkingFile<'_>,
     mut words: Words<'a>,
-) -> Result<Outcome, Misdone<'a>> {
+) -> Result<Outcome, CallError<'a>> {
     let number = words.number()?;
-    let word = words.next().ok_or(Misread::WordMissing)?;
+    let word = words.next().ok_or(ArgumentError::Missing)?;
     words.end()?;
     let block = BlockToRead { heap, file, number };
-    Ok(by_key(word, block).ok_or(Misread::NoKind)??)
+    Ok(by_key(word, block).ok_or(ArgumentError::NoKind)??)
 }
 
 /// The row that the next three words ask for: level, cell and row.
-fn next_row(words: &mut Words) -> Result<RowAt, Misread>
+fn next_row(words: &mut Words) -> Result<RowAt, ArgumentError>
     ensures { IfOk result (λ at. (at.level ≡ first words.old.rest.now) × (at.cell ≡ second words.old.rest.now) × (at.row ≡ third words.old.rest.now)) }
 {
     Ok(RowAt {
@@ -64,7 +64,7 @@ fn next_row(words: &mut Words) -> Result<RowAt, Misread>
 }
 
 /// Place and length of a row.
-fn row<'a>(file: &WorkingFile<'_>, mut words: Words<'a>) -> Result<Outcome, Misdone<'a>>
+fn row<'a>(file: &WorkingFile<'_>, mut words: Words<'a>) -> Result<Outcome, CallError<'a>>
     ensures { IfOk result (λ told. told ≡ told_row (file_of (view file.now)) words.entry.rest.now) }
 {
     let at = next_row(&mut words)?;
@@ -85,7 +85,7 @@ fn numbers<'a>(
     heap: Global,
     file: &WorkingFile<'_>,
     mut words: Words<'a>,
-) -> Result<Outcome, Misdone<'a>> {
+) -> Result<Outcome, CallError<'a>> {
     let at = next_row(&mut words)?;
     let mut list = vec![in heap; 0u32; only_number(words)?]?;
     if let Err(fault) = file.numbers(at, list.as_mut_slice()) {
@@ -100,7 +100,7 @@ fn table<'a>(
     heap: Global,
     file: &WorkingFile<'_>,
     words: Words<'a>,
-) -> Result<Outcome, Misdone<'a>> {
+) -> Result<Outcome, CallError<'a>> {
     let none = Entry {
         key: 0,
         place: 0,
@@ -117,7 +117,7 @@ fn table<'a>(
 }
 
 /// The pattern of a field.
-fn field<'a>(file: &WorkingFile<'_>, mut words: Words<'a>) -> Result<Outcome, Misdone<'a>>
+fn field<'a>(file: &WorkingFile<'_>, mut words: Words<'a>) -> Result<Outcome, CallError<'a>>
     ensures { IfOk result (λ told. told ≡ told_field (file_of (view file.now)) words.entry.rest.now) }
 {
     let level = words.number()?;
@@ -130,7 +130,7 @@ fn field<'a>(file: &WorkingFile<'_>, mut words: Words<'a>) -> Result<Outcome, Mi
 }
 
 /// A block, by its head.
-fn block<'a>(file: &WorkingFile<'_>, mut words: Words<'a>) -> Result<Outcome, Misdone<'a>>
+fn block<'a>(file: &WorkingFile<'_>, mut words: Words<'a>) -> Result<Outcome, CallError<'a>>
     ensures { IfOk result (λ told. told ≡ told_block (file_of (view file.now)) words.entry.rest.now) }
 {
     let level = words.number()?;
@@ -139,7 +139,7 @@ fn block<'a>(file: &WorkingFile<'_>, mut words: Words<'a>) -> Result<Outcome, Mi
 }
 
 /// The file's version.
-fn version<'a>(file: &WorkingFile<'_>, words: Words<'a>) -> Result<Outcome, Misdone<'a>>
+fn version<'a>(file: &WorkingFile<'_>, words: Words<'a>) -> Result<Outcome, CallError<'a>>
     ensures { IfOk result (λ told. told ≡ number_or_refused (version_answer (file_of (view file.now)))) }
 {
     words.end()?;
@@ -147,7 +147,7 @@ fn version<'a>(file: &WorkingFile<'_>, words: Words<'a>) -> Result<Outcome, Misd
 }
 
 /// Where a reader of a level finds the data.
-fn start<'a>(file: &WorkingFile<'_>, words: Words<'a>) -> Result<Outcome, Misdone<'a>>
+fn start<'a>(file: &WorkingFile<'_>, words: Words<'a>) -> Result<Outcome, CallError<'a>>
     ensures { IfOk result (λ told. told ≡ told_start (file_of (view file.now)) words.entry.rest.now) }
 {
     Ok(file.start(only_number(words)?).into())
@@ -159,7 +159,7 @@ pub(crate) fn ask<'a>(
     file: &WorkingFile<'_>,
     question: Question,
     words: Words<'a>,
-) -> Result<Outcome, Misdone<'a>>
+) -> Result<Outcome, CallError<'a>>
     ensures { IfOk result (Told question (file_of (view file.now)) words.entry.rest.now) }
 {
     match question {

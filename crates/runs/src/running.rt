@@ -4,9 +4,9 @@ use crate::working::Working;
 use draft::Start;
 use faults::Fault;
 use format::judge;
-use script::{Misread, Words};
+use script::{ArgumentError, Words};
 use session::{
-    Drafting, Line, Misdone, Outcome, Room, all_numbers, bytes_text, only_bytes, only_number,
+    CallError, Drafting, Line, Outcome, Room, all_numbers, bytes_text, only_bytes, only_number,
     write_whole,
 };
 
@@ -23,7 +23,7 @@ pub struct Session {
 }
 
 /// What a call leaves: the session, and how the call came out, or why the line is not done.
-type Called<'a> = (Session, Result<Outcome, Misdone<'a>>);
+type Called<'a> = (Session, Result<Outcome, CallError<'a>>);
 
 /// How making a buffer came out, by how many bytes its file has.
 fn held(size: usize) -> Outcome {
@@ -34,12 +34,12 @@ fn held(size: usize) -> Outcome {
 }
 
 /// Judges the bytes that the only word says.
-fn judge_bytes<'a>(rt: &HostRuntime, words: Words<'a>) -> Result<Outcome, Misdone<'a>> {
+fn judge_bytes<'a>(rt: &HostRuntime, words: Words<'a>) -> Result<Outcome, CallError<'a>> {
     Ok(judge(only_bytes(rt, words)?.as_slice()).into())
 }
 
 /// A buffer of so many bytes, as the first word says, that begins with the bytes that the other says; zeros stand behind.
-fn make<'a>(rt: &HostRuntime, mut words: Words<'a>) -> Result<Working, Misdone<'a>> {
+fn make<'a>(rt: &HostRuntime, mut words: Words<'a>) -> Result<Working, CallError<'a>> {
     let most = words.number()?;
     let mut bytes = only_bytes(rt, words)?;
     let size = bytes.len();
@@ -48,18 +48,18 @@ fn make<'a>(rt: &HostRuntime, mut words: Words<'a>) -> Result<Working, Misdone<'
 }
 
 /// Writes the file under the name that the first word is, in place of another only where `--force` stands behind.
-fn save<'a>(rt: &HostRuntime, working: &Working, line: Line<'a>) -> Result<Outcome, Misdone<'a>> {
+fn save<'a>(rt: &HostRuntime, working: &Working, line: Line<'a>) -> Result<Outcome, CallError<'a>> {
     let mut words = line.words;
-    let name = words.next().ok_or(Misread::WordMissing)?;
+    let name = words.next().ok_or(ArgumentError::Missing)?;
     let over = match words.next() {
         None => false,
         Some("--force") => true,
-        Some(_) => return Err(Misdone::Misread(Misread::WordTooMany)),
+        Some(_) => return Err(CallError::Argument(ArgumentError::TooMany)),
     };
     words.end()?;
     let bytes = working.file();
     if bytes.is_empty() {
-        return Err(Misdone::NoFile(line.verb));
+        return Err(CallError::NoFile(line.verb));
     }
     write_whole(rt, name, bytes, over)?;
     Ok(Outcome::Number(bytes.len()))
@@ -70,7 +70,7 @@ fn show_bytes<'a>(
     rt: &HostRuntime,
     working: &Working,
     mut words: Words<'a>,
-) -> Result<Outcome, Misdone<'a>> {
+) -> Result<Outcome, CallError<'a>> {
     let from = words.number()?;
     let count = only_number(words)?;
     Ok(Outcome::Words(bytes_text(rt.alloc(), working.bytes(from, count))?))
@@ -82,18 +82,21 @@ fn call_working<'a>(
     working: &mut Working,
     call: Call,
     line: Line<'a>,
-) -> Result<Outcome, Misdone<'a>> {
+) -> Result<Outcome, CallError<'a>> {
     match call {
         Call::Change(edit) => working.edit(rt, edit, line.words),
         Call::Ask(question) => working.ask(rt.alloc(), question, line.words),
         Call::Bytes => show_bytes(rt, working, line.words),
         Call::Save => save(rt, working, line),
-        _ => Err(Misdone::NoCall(line.verb)),
+        _ => Err(CallError::NoCall(line.verb)),
     }
 }
 
 /// Begins a draft, as the words say: the capacity of its buffer, what it begins with, and its values.
-fn begin<'a>(rt: &HostRuntime, mut words: Words<'a>) -> Result<Result<Opened, Fault>, Misdone<'a>> {
+fn begin<'a>(
+    rt: &HostRuntime,
+    mut words: Words<'a>,
+) -> Result<Result<Opened, Fault>, CallError<'a>> {
     let capacity = words.number()?;
     let start = Start {
         version: words.number()?,
@@ -142,9 +145,9 @@ impl Session {
                 let working = Some(working);
                 (Session { working, draft }, Ok(outcome))
             }
-            Err(misdone) => {
+            Err(error) => {
                 let working = None;
-                (Session { working, draft }, Err(misdone))
+                (Session { working, draft }, Err(error))
             }
         }
     }
@@ -162,9 +165,9 @@ impl Session {
                 let draft = None;
                 (Session { working, draft }, Ok(Outcome::Refused(fault)))
             }
-            Err(misdone) => {
+            Err(error) => {
                 let draft = None;
-                (Session { working, draft }, Err(misdone))
+                (Session { working, draft }, Err(error))
             }
         }
     }
@@ -176,7 +179,10 @@ impl Session {
             Some(Opened { drafting, room }) => (drafting, room),
             None => {
                 let draft = None;
-                return (Session { working, draft }, Err(Misdone::NoCall(line.verb)));
+                return (
+                    Session { working, draft },
+                    Err(CallError::NoCall(line.verb)),
+                );
             }
         };
         let (drafting, outcome) = drafting.call(rt, &mut room, line);
@@ -200,7 +206,7 @@ impl Session {
     fn call_working<'a>(mut self, rt: &HostRuntime, call: Call, line: Line<'a>) -> Called<'a> {
         let outcome = match &mut self.working {
             Some(working) => call_working(rt, working, call, line),
-            None => Err(Misdone::NoBuffer(line.verb)),
+            None => Err(CallError::NoBuffer(line.verb)),
         };
         (self, outcome)
     }
@@ -210,7 +216,7 @@ impl Session {
         self,
         rt: &HostRuntime,
         line: Line<'a>,
-    ) -> (Session, Result<Outcome, Misdone<'a>>) {
+    ) -> (Session, Result<Outcome, CallError<'a>>) {
         match Call::named(line.verb) {
             Call::Judge => (self, judge_bytes(rt, line.words)),
             Call::Make => self.make(rt, line.words),

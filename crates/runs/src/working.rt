@@ -10,7 +10,7 @@ use crate::questions::ask;
 use editor::WorkingFile;
 use faults::Fault;
 use script::Words;
-use session::{Misdone, Outcome, Room};
+use session::{CallError, Outcome, Room};
 use std::alloc::Global;
 
 /// A buffer that holds a file at its start, or none.
@@ -60,7 +60,7 @@ impl Working {
         rt: &HostRuntime,
         call: Edit,
         words: Words<'a>,
-    ) -> Result<Result<(), Fault>, Misdone<'a>> {
+    ) -> Result<Result<(), Fault>, CallError<'a>> {
         let mut file = WorkingFile::make(self.room.bytes.as_mut_slice(), self.size);
         let answer = edit(rt, &mut file, call, words)?;
         self.size = file.bytes().len();
@@ -73,7 +73,7 @@ impl Working {
         rt: &HostRuntime,
         call: Edit,
         words: Words<'a>,
-    ) -> Result<Outcome, Misdone<'a>> {
+    ) -> Result<Outcome, CallError<'a>> {
         let answer = self.edit_once(rt, call, words)?;
         if self.room.grow(answer)? {
             return Ok(self.edit_once(rt, call, words)?.into());
@@ -87,7 +87,7 @@ impl Working {
         heap: Global,
         question: Question,
         words: Words<'a>,
-    ) -> Result<Outcome, Misdone<'a>>
+    ) -> Result<Outcome, CallError<'a>>
         ensures { IfOk result (Told question (file (made self.old.room.bytes.items self.old.size)) words.entry.rest.now) }
     {
         let file = WorkingFile::make(self.room.bytes.as_mut_slice(), self.size);

@@ -1,4 +1,4 @@
-pub mod Misread
+pub mod ArgumentError
 pub mod Numbers
 pub mod Records
 pub mod Written

@@ -10,7 +10,7 @@ ghost use Rattle.records.specs.Supi.{supi_parts, supi_numbers};
 ghost use Rattle.records.specs.Time.{time_parts, time_numbers};
 ghost use Rattle.script.specs.Records.{NumbersFor, numbers_for, behind_all};
 
-use crate::misread::Misread;
+use crate::argument_error::ArgumentError;
 use crate::words::Words;
 use records::{Fill, Fwin, Glrm, Loca, Rcvi, Supi, Time};
 
@@ -21,7 +21,7 @@ pub trait FromWords: Copy {
     ghost numbers: { Self → List ℕ };
 
     /// The record whose numbers, in order, are those that the next words write; refuses where one of them writes none that fits.
-    fn from_words(words: &mut Words) -> Result<Self, Misread>
+    fn from_words(words: &mut Words) -> Result<Self, ArgumentError>
         ensures ok { IfOk result (λ r. NumbersFor parts words.old.rest.now × (numbers r ≡ numbers_for parts words.old.rest.now) × (words.new.rest.now ≡ behind_all parts words.old.rest.now)) }
         ensures err { OnErr result (NumbersFor parts words.old.rest.now → ⊥) };
 }
@@ -31,7 +31,7 @@ impl FromWords for Time {
 
     ghost numbers = { time_numbers };
 
-    fn from_words(words: &mut Words) -> Result<Time, Misread> {
+    fn from_words(words: &mut Words) -> Result<Time, ArgumentError> {
         Ok(Time {
             mark: words.number()?,
             year: words.number()?,
@@ -51,7 +51,7 @@ impl FromWords for Loca {
 
     ghost numbers = { loca_numbers };
 
-    fn from_words(words: &mut Words) -> Result<Loca, Misread> {
+    fn from_words(words: &mut Words) -> Result<Loca, ArgumentError> {
         Ok(Loca {
             latitude: words.number()?,
             longitude: words.number()?,
@@ -65,7 +65,7 @@ impl FromWords for Rcvi {
 
     ghost numbers = { rcvi_numbers };
 
-    fn from_words(words: &mut Words) -> Result<Rcvi, Misread> {
+    fn from_words(words: &mut Words) -> Result<Rcvi, ArgumentError> {
         Ok(Rcvi {
             receiver: words.number()?,
             antenna: words.number()?,
@@ -79,7 +79,7 @@ impl FromWords for Glrm {
 
     ghost numbers = { glrm_numbers };
 
-    fn from_words(words: &mut Words) -> Result<Glrm, Misread> {
+    fn from_words(words: &mut Words) -> Result<Glrm, ArgumentError> {
         Ok(Glrm {
             method: words.number()?,
             version: words.number()?,
@@ -99,7 +99,7 @@ impl FromWords for Supi {
 
     ghost numbers = { supi_numbers };
 
-    fn from_words(words: &mut Words) -> Result<Supi, Misread> {
+    fn from_words(words: &mut Words) -> Result<Supi, ArgumentError> {
         Ok(Supi {
             method: words.number()?,
             version: words.number()?,
@@ -119,7 +119,7 @@ impl FromWords for Fwin {
 
     ghost numbers = { fwin_numbers };
 
-    fn from_words(words: &mut Words) -> Result<Fwin, Misread> {
+    fn from_words(words: &mut Words) -> Result<Fwin, ArgumentError> {
         Ok(Fwin {
             range: words.number()?,
             doppler: words.number()?,
@@ -134,7 +134,7 @@ impl FromWords for Fill {
 
     ghost numbers = { fill_numbers };
 
-    fn from_words(words: &mut Words) -> Result<Fill, Misread> {
+    fn from_words(words: &mut Words) -> Result<Fill, ArgumentError> {
         Ok(Fill {
             range_method: words.number()?,
             range_multiple: words.number()?,
@@ -150,7 +150,7 @@ impl FromWords for () {
 
     ghost numbers = { λ x. [] };
 
-    fn from_words(_words: &mut Words) -> Result<(), Misread> {
+    fn from_words(_words: &mut Words) -> Result<(), ArgumentError> {
         Ok(())
     }
 }

@@ -1,10 +1,10 @@
 //! Bytes, as words say them.
 ghost use Rattle.std.specs.Prelude.{◌≡◌, ◌≢◌, ◌<◌, ◌%◌, ◌⊎◌, ◌++◌, ◌∷◌, [], ℕ, List, MatchOption, MatchResult, IfOk, IfErr, IsErr, length};
-ghost use Rattle.script.specs.declared.misread.Misread.TheVariants.{OddDigits, OutOfMemory};
+ghost use Rattle.script.specs.declared.argument_error.ArgumentError.TheVariants.{OddDigits, OutOfMemory};
 ghost use Rattle.hex.specs.Hex.{decode_of};
 ghost use Rattle.script.specs.Literal.{SaysBytes};
 
-use crate::misread::Misread;
+use crate::argument_error::ArgumentError;
 use hex::FromHexError;
 use std::alloc::Global;
 
@@ -46,7 +46,7 @@ fn quoted(word: &str) -> Option<&str>
 
 impl<'a> Literal<'a> {
     /// How a word says bytes; refuses a word that says none.
-    pub fn of(word: &'a str) -> Result<Literal<'a>, Misread>
+    pub fn of(word: &'a str) -> Result<Literal<'a>, ArgumentError>
         ensures { SaysBytes word.now result }
     {
         if let Some(digits) = behind_mark(word, 'x') {
@@ -57,27 +57,27 @@ impl<'a> Literal<'a> {
         }
         match quoted(word) {
             Some(text) => Ok(Literal::Text(text)),
-            None => Err(Misread::NoBytes),
+            None => Err(ArgumentError::NoBytes),
         }
     }
 }
 
 /// The bytes that hexadecimal digits say, two digits a byte; refuses an odd count of digits and any other character.
-pub fn hexadecimal(heap: Global, digits: &str) -> Result<Vec<u8>, Misread>
+pub fn hexadecimal(heap: Global, digits: &str) -> Result<Vec<u8>, ArgumentError>
     ensures bytes { IfOk result (λ v. decode_of digits.now ≡ Ok v.items) }
     ensures odd { length digits.now % 2 ≡ 1 → result ≡ Err OddDigits }
     ensures told { IfErr result (λ e. (e ≡ OutOfMemory) ⊎ IsErr (decode_of digits.now)) }
 {
     hex::decode(heap, digits).map_err(|error| match error {
-        FromHexError::OddLength => Misread::OddDigits,
-        FromHexError::OutOfMemory => Misread::OutOfMemory,
-        _ => Misread::NoDigit,
+        FromHexError::OddLength => ArgumentError::OddDigits,
+        FromHexError::OutOfMemory => ArgumentError::OutOfMemory,
+        _ => ArgumentError::NoDigit,
     })
 }
 
 /// The key that bytes are; refuses another count of bytes than four.
-pub fn key_of(bytes: &[u8]) -> Result<[u8; 4], Misread>
+pub fn key_of(bytes: &[u8]) -> Result<[u8; 4], ArgumentError>
     ensures { MatchResult result (λ key. key ≡ bytes.now) (λ e. length bytes.now ≢ 4) }
 {
-    bytes.try_into().map_err(|_| Misread::NoKey)
+    bytes.try_into().map_err(|_| ArgumentError::NoKey)
 }

@@ -5,7 +5,7 @@ ghost use Rattle.std.specs.List.{position_or_len, prefix_len};
 ghost use Rattle.script.specs.Numbers.{NumberFor, number_for};
 ghost use Rattle.script.specs.Words.{first_word, word, behind, unspaced, word_length, is_space};
 
-use crate::misread::Misread;
+use crate::argument_error::ArgumentError;
 use crate::numbers::Number;
 
 /// What of a line is still to be read; its words come one after the other.
@@ -65,22 +65,22 @@ impl<'a> Words<'a> {
     }
 
     /// The number that the next word writes; refuses a word that writes none.
-    pub fn number<N: Number>(&mut self) -> Result<N, Misread>
+    pub fn number<N: Number>(&mut self) -> Result<N, ArgumentError>
         ensures ok { IfOk result (λ n. NumberFor N.part (word self.old.rest.now) × (N.number n ≡ number_for N.part (word self.old.rest.now))) }
         ensures err { OnErr result (NumberFor N.part (word self.old.rest.now) → ⊥) }
         ensures rest { self.new.rest.now ≡ behind self.old.rest.now }
     {
-        let word = self.next().ok_or(Misread::WordMissing)?;
-        N::named(word).ok_or(Misread::NoNumber)
+        let word = self.next().ok_or(ArgumentError::Missing)?;
+        N::named(word).ok_or(ArgumentError::NoNumber)
     }
 
     /// Refuses a line that has words left.
-    pub fn end(mut self) -> Result<(), Misread>
+    pub fn end(mut self) -> Result<(), ArgumentError>
         ensures { MatchResult result (λ done. first_word self.entry.rest.now ≡ None) (λ e. IsSome (first_word self.entry.rest.now)) }
     {
         match self.next() {
             None => Ok(()),
-            Some(_) => Err(Misread::WordTooMany),
+            Some(_) => Err(ArgumentError::TooMany),
         }
     }
 }

@@ -4,13 +4,13 @@ ghost use Rattle.script.specs.Numbers.{number_for};
 ghost use Rattle.session.specs.Bytes.{SaidBy};
 ghost use Rattle.script.specs.Words.{word, behind};
 
+use crate::errors::CallError;
 use crate::files::read_file;
-use crate::lines::Misdone;
-use script::{Literal, Misread, Number, Words, hexadecimal};
+use script::{ArgumentError, Literal, Number, Words, hexadecimal};
 use std::alloc::{AllocError, Global};
 
 /// The bytes that a word says.
-fn bytes_of<'a>(rt: &HostRuntime, word: &'a str) -> Result<Vec<u8>, Misdone<'a>>
+fn bytes_of<'a>(rt: &HostRuntime, word: &'a str) -> Result<Vec<u8>, CallError<'a>>
     ensures { IfOk result (λ v. SaidBy word.now v.items) }
 {
     match Literal::of(word)? {
@@ -21,18 +21,18 @@ fn bytes_of<'a>(rt: &HostRuntime, word: &'a str) -> Result<Vec<u8>, Misdone<'a>>
 }
 
 /// The bytes that the next word says.
-pub fn next_bytes<'a>(rt: &HostRuntime, words: &mut Words<'a>) -> Result<Vec<u8>, Misdone<'a>>
+pub fn next_bytes<'a>(rt: &HostRuntime, words: &mut Words<'a>) -> Result<Vec<u8>, CallError<'a>>
     ensures bytes { IfOk result (λ v. SaidBy (word words.old.rest.now) v.items) }
     ensures rest { words.new.rest.now ≡ behind words.old.rest.now }
 {
     match words.next() {
         Some(word) => bytes_of(rt, word),
-        None => Err(Misdone::Misread(Misread::WordMissing)),
+        None => Err(CallError::Argument(ArgumentError::Missing)),
     }
 }
 
 /// The bytes that the only word says.
-pub fn only_bytes<'a>(rt: &HostRuntime, mut words: Words<'a>) -> Result<Vec<u8>, Misdone<'a>>
+pub fn only_bytes<'a>(rt: &HostRuntime, mut words: Words<'a>) -> Result<Vec<u8>, CallError<'a>>
     ensures { IfOk result (λ v. SaidBy (word words.entry.rest.now) v.items) }
 {
     let bytes = next_bytes(rt, &mut words)?;
@@ -41,7 +41,7 @@ pub fn only_bytes<'a>(rt: &HostRuntime, mut words: Words<'a>) -> Result<Vec<u8>,
 }
 
 /// The text that the last word says; it is empty where no word is left.
-pub fn last_text<'a>(rt: &HostRuntime, mut words: Words<'a>) -> Result<Vec<u8>, Misdone<'a>> {
+pub fn last_text<'a>(rt: &HostRuntime, mut words: Words<'a>) -> Result<Vec<u8>, CallError<'a>> {
     let text = match words.next() {
         Some(word) => bytes_of(rt, word)?,
         None => Vec::new(rt.alloc()),
@@ -51,7 +51,7 @@ pub fn last_text<'a>(rt: &HostRuntime, mut words: Words<'a>) -> Result<Vec<u8>, 
 }
 
 /// The number that the only word writes.
-pub fn only_number<N: Number>(mut words: Words) -> Result<N, Misread>
+pub fn only_number<N: Number>(mut words: Words) -> Result<N, ArgumentError>
     ensures { IfOk result (λ n. N.number n ≡ number_for N.part (word words.entry.rest.now)) }
 {
     let number = words.number()?;
@@ -60,10 +60,10 @@ pub fn only_number<N: Number>(mut words: Words) -> Result<N, Misread>
 }
 
 /// The numbers that all words write.
-pub fn all_numbers<'a>(heap: Global, words: Words<'a>) -> Result<Vec<u32>, Misdone<'a>> {
+pub fn all_numbers<'a>(heap: Global, words: Words<'a>) -> Result<Vec<u32>, CallError<'a>> {
     let mut numbers = Vec::new(heap);
     for word in words {
-        let number = u32::named(word).ok_or(Misread::NoNumber)?;
+        let number = u32::named(word).ok_or(ArgumentError::NoNumber)?;
         numbers.push(number).map_err(AllocError::from)?;
     }
     Ok(numbers)

@@ -2,14 +2,15 @@
 ghost use Rattle.std.specs.Prelude.{⊤};
 
 use crate::bytes::{last_text, next_bytes, only_bytes};
-use crate::lines::{Line, Misdone};
+use crate::errors::CallError;
+use crate::lines::Line;
 use crate::named::{ForKind, by_key};
 use crate::outcome::Outcome;
 use crate::room::Room;
 use draft::{BlockStage, CellStage, Start};
 use faults::Fault;
 use kinds::Kind;
-use script::{FromWords, Misread, ToWords, Words, key_of};
+use script::{ArgumentError, FromWords, ToWords, Words, key_of};
 use std::alloc::AllocError;
 
 /// The stage of a draft. It is no `Drop`, as the stages in it: whoever has it ends it, or gives it up.
@@ -23,7 +24,7 @@ pub enum Drafting {
 }
 
 /// What a call leaves: the stage of the draft, and how the call came out.
-type Stepped<'a> = (Drafting, Result<Outcome, Misdone<'a>>);
+type Stepped<'a> = (Drafting, Result<Outcome, CallError<'a>>);
 
 /// A block that is to be put, whose numbers and text the words say.
 #[derive(Drop)]
@@ -35,11 +36,11 @@ struct BlockToPut<'c, 'a> {
 }
 
 impl<'c, 'a> ForKind for BlockToPut<'c, 'a> {
-    type Output = Result<Outcome, Misdone<'a>>;
+    type Output = Result<Outcome, CallError<'a>>;
 
     ghost gives = { λ call key outcome. ⊤ };
 
-    fn of<K: Kind>(self) -> Result<Outcome, Misdone<'a>>
+    fn of<K: Kind>(self) -> Result<Outcome, CallError<'a>>
     where
         K::Record: FromWords + ToWords,
     {
@@ -66,15 +67,15 @@ fn put<'a>(
     stage: &mut BlockStage,
     room: &mut Room,
     mut words: Words<'a>,
-) -> Result<Outcome, Misdone<'a>> {
-    let word = words.next().ok_or(Misread::WordMissing)?;
+) -> Result<Outcome, CallError<'a>> {
+    let word = words.next().ok_or(ArgumentError::Missing)?;
     let block = BlockToPut {
         rt,
         stage,
         room,
         words,
     };
-    by_key(word, block).ok_or(Misread::NoKind)?
+    by_key(word, block).ok_or(ArgumentError::NoKind)?
 }
 
 /// Puts a block whose key and data the words say.
@@ -83,7 +84,7 @@ fn put_raw<'a>(
     stage: &mut BlockStage,
     room: &mut Room,
     mut words: Words<'a>,
-) -> Result<Outcome, Misdone<'a>> {
+) -> Result<Outcome, CallError<'a>> {
     let key = key_of(next_bytes(rt, &mut words)?.as_slice())?;
     let body = only_bytes(rt, words)?;
     let outcome = stage.carry(room.bytes.as_mut_slice(), key, body.as_slice());
@@ -111,7 +112,7 @@ fn lay_cell<'a>(stage: CellStage, room: &mut Room, cell: &[u8]) -> Stepped<'a> {
 fn lay<'a>(rt: &HostRuntime, stage: CellStage, room: &mut Room, words: Words<'a>) -> Stepped<'a> {
     match only_bytes(rt, words) {
         Ok(cell) => lay_cell(stage, room, cell.as_slice()),
-        Err(misdone) => (Drafting::Cells(stage), Err(misdone)),
+        Err(error) => (Drafting::Cells(stage), Err(error)),
     }
 }
 
@@ -119,14 +120,14 @@ fn lay<'a>(rt: &HostRuntime, stage: CellStage, room: &mut Room, words: Words<'a>
 fn turn(stage: BlockStage, words: Words<'_>) -> Stepped<'_> {
     match words.end() {
         Ok(()) => (Drafting::Cells(stage.turn()), Ok(Outcome::Done)),
-        Err(misread) => (Drafting::Blocks(stage), Err(misread.into())),
+        Err(error) => (Drafting::Blocks(stage), Err(error.into())),
     }
 }
 
 /// Closes a draft.
 fn close(stage: CellStage, words: Words<'_>) -> Stepped<'_> {
-    if let Err(misread) = words.end() {
-        return (Drafting::Cells(stage), Err(misread.into()));
+    if let Err(error) = words.end() {
+        return (Drafting::Cells(stage), Err(error.into()));
     }
     match stage.close() {
         Ok(length) => (Drafting::Closed(length), Ok(Outcome::Number(length))),
@@ -151,7 +152,7 @@ fn call_blocks<'a>(
             (Drafting::Blocks(stage), outcome)
         }
         "turn" => turn(stage, line.words),
-        _ => (Drafting::Blocks(stage), Err(Misdone::NoCall(line.verb))),
+        _ => (Drafting::Blocks(stage), Err(CallError::NoCall(line.verb))),
     }
 }
 
@@ -165,7 +166,7 @@ fn call_cells<'a>(
     match line.verb {
         "lay" => lay(rt, stage, room, line.words),
         "close" => close(stage, line.words),
-        _ => (Drafting::Cells(stage), Err(Misdone::NoCall(line.verb))),
+        _ => (Drafting::Cells(stage), Err(CallError::NoCall(line.verb))),
     }
 }
 
@@ -198,11 +199,14 @@ impl Drafting {
         rt: &HostRuntime,
         room: &mut Room,
         line: Line<'a>,
-    ) -> (Drafting, Result<Outcome, Misdone<'a>>) {
+    ) -> (Drafting, Result<Outcome, CallError<'a>>) {
         match self {
             Drafting::Blocks(stage) => call_blocks(rt, stage, room, line),
             Drafting::Cells(stage) => call_cells(rt, stage, room, line),
-            Drafting::Closed(length) => (Drafting::Closed(length), Err(Misdone::NoCall(line.verb))),
+            Drafting::Closed(length) => (
+                Drafting::Closed(length),
+                Err(CallError::NoCall(line.verb)),
+            ),
         }
     }
 

@@ -1,53 +1,39 @@
 //! The reading of a file, and the writing of one, whole or not at all.
 use std::fs::File;
 use std::io::Write;
-use std::{fmt, fs, io, process};
+use std::{fs, io, process};
+use thiserror::Error;
 
 /// A file that cannot be read, and why.
-#[derive(Drop)]
-pub struct Unread<'a> {
+#[derive(Debug, Drop, Error)]
+#[error("{name}: cannot be read: {error}")]
+pub struct ReadError<'a> {
     name: &'a str,
     error: io::Error,
 }
 
-impl fmt::Display for Unread<'_> {
-    fn fmt<W: fmt::Write>(&self, f: &mut fmt::Formatter<W>) -> fmt::Result {
-        write!(f, "{}: cannot be read: {}", self.name, self.error)
-    }
-}
-
 /// The bytes of a file.
-pub fn read_file<'a>(rt: &HostRuntime, name: &'a str) -> Result<Vec<u8>, Unread<'a>> {
-    fs::read(rt, name).map_err(|error| Unread { name, error })
+pub fn read_file<'a>(rt: &HostRuntime, name: &'a str) -> Result<Vec<u8>, ReadError<'a>> {
+    fs::read(rt, name).map_err(|error| ReadError { name, error })
 }
 
 /// Why a file is not written.
-#[derive(Drop)]
-pub enum Unwritten<'a> {
+#[derive(Debug, Drop, Error)]
+pub enum WriteError<'a> {
     /// A file of that name is there already.
+    #[error("{0}: is there already; it is written over only with --force")]
     Taken(&'a str),
     /// The file of that name cannot be written, and why.
+    #[error("{0}: cannot be written: {1}")]
     Failed(&'a str, io::Error),
 }
 
-impl fmt::Display for Unwritten<'_> {
-    fn fmt<W: fmt::Write>(&self, f: &mut fmt::Formatter<W>) -> fmt::Result {
-        match self {
-            Unwritten::Taken(name) => write!(
-                f,
-                "{name}: is there already; it is written over only with --force"
-            ),
-            Unwritten::Failed(name, error) => write!(f, "{name}: cannot be written: {error}"),
-        }
-    }
-}
-
 /// Refuses a name that a file has already, unless the new one may take its place.
-pub fn check_free<'a>(rt: &HostRuntime, name: &'a str, over: bool) -> Result<(), Unwritten<'a>> {
+pub fn check_free<'a>(rt: &HostRuntime, name: &'a str, over: bool) -> Result<(), WriteError<'a>> {
     match fs::exists(rt, name) {
-        Ok(there) if there && !over => Err(Unwritten::Taken(name)),
+        Ok(there) if there && !over => Err(WriteError::Taken(name)),
         Ok(_) => Ok(()),
-        Err(error) => Err(Unwritten::Failed(name, error)),
+        Err(error) => Err(WriteError::Failed(name, error)),
     }
 }
 
@@ -88,7 +74,7 @@ pub fn write_whole<'a>(
     name: &'a str,
     bytes: &[u8],
     over: bool,
-) -> Result<(), Unwritten<'a>> {
+) -> Result<(), WriteError<'a>> {
     check_free(rt, name, over)?;
-    write_beside(rt, name, bytes, over).map_err(|error| Unwritten::Failed(name, error))
+    write_beside(rt, name, bytes, over).map_err(|error| WriteError::Failed(name, error))
 }

@@ -3,6 +3,7 @@
 
 mod bytes;
 mod drafting;
+mod errors;
 mod files;
 mod lines;
 mod listed;
@@ -12,8 +13,9 @@ mod room;
 
 pub use bytes::{all_numbers, last_text, next_bytes, only_bytes, only_number};
 pub use drafting::Drafting;
-pub use files::{Unread, Unwritten, check_free, read_file, write_whole};
-pub use lines::{Line, Misdone, Undone};
+pub use errors::{CallError, ScriptError};
+pub use files::{ReadError, WriteError, check_free, read_file, write_whole};
+pub use lines::Line;
 pub use listed::{Word, bytes_text, entries_text, patterns_text, reading_text};
 pub use named::{ForKind, by_key};
 pub use outcome::{Answer, Outcome};

@@ -1,16 +1,16 @@
-//! Why words cannot be read.
+//! Why the arguments of a call cannot be read.
 ghost use Rattle.std.specs.Prelude.{◌≡◌, Some};
-ghost use Rattle.script.specs.Misread.{misread_text};
+ghost use Rattle.script.specs.ArgumentError.{argument_error_text};
 
 use std::{error, fmt};
 
 /// Why a word, or a line of words, cannot be read.
 #[derive(Clone, Copy, PartialEq, Eq, Debug)]
-pub enum Misread {
+pub enum ArgumentError {
     /// The line ends before the call has all its words.
-    WordMissing,
+    Missing,
     /// The line has more words than the call takes.
-    WordTooMany,
+    TooMany,
     /// A word is no decimal number that fits its place.
     NoNumber,
     /// A word does not say bytes.
@@ -27,32 +27,32 @@ pub enum Misread {
     OutOfMemory,
 }
 
-impl Misread {
+impl ArgumentError {
     /// What is said of it.
     pub fn text(self) -> &'static str
-        ensures { result.now ≡ misread_text self }
+        ensures { result.now ≡ argument_error_text self }
     {
         match self {
-            Misread::WordMissing => "a word is missing",
-            Misread::WordTooMany => "more words than the call takes",
-            Misread::NoNumber => "no decimal number that fits",
-            Misread::NoBytes =>
+            ArgumentError::Missing => "a word is missing",
+            ArgumentError::TooMany => "more words than the call takes",
+            ArgumentError::NoNumber => "no decimal number that fits",
+            ArgumentError::NoBytes =>
                 "no bytes: neither x and digits, nor a text in quotes, nor @ and a path",
-            Misread::OddDigits => "an odd count of hexadecimal digits",
-            Misread::NoDigit => "no hexadecimal digit",
-            Misread::NoKey => "no key of four bytes",
-            Misread::NoKind => "no kind of block",
-            Misread::OutOfMemory => "out of memory",
+            ArgumentError::OddDigits => "an odd count of hexadecimal digits",
+            ArgumentError::NoDigit => "no hexadecimal digit",
+            ArgumentError::NoKey => "no key of four bytes",
+            ArgumentError::NoKind => "no kind of block",
+            ArgumentError::OutOfMemory => "out of memory",
         }
     }
 }
 
-impl fmt::Display for Misread {
-    ghost output = { λ x. Some (misread_text x) };
+impl fmt::Display for ArgumentError {
+    ghost output = { λ x. Some (argument_error_text x) };
 
     fn fmt<W: fmt::Write>(&self, f: &mut fmt::Formatter<W>) -> fmt::Result {
         f.write_str(self.text())
     }
 }
 
-impl error::Error for Misread {}
+impl error::Error for ArgumentError {}
