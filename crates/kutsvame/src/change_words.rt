@@ -5,10 +5,10 @@ ghost use Rattle.kutsvame.specs.Lines.{raised_text, added_text};
 use crate::command_error::{CommandError, read_accepted};
 use crate::judge::judge_bytes;
 use crate::words::{MOST, split_force};
+use calls::{Outcome, Room, check_free, write_whole};
 use format::{Layout, judge};
-use runs::{Edit, Working};
 use script::Words;
-use session::{Outcome, Room, check_free, write_whole};
+use session::{Edit, Working};
 use std::alloc::{AllocError, Global};
 
 /// What the words ask for.

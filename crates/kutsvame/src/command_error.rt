@@ -5,11 +5,11 @@ ghost use Rattle.kutsvame.specs.Misuse.{NoNumber};
 ghost use Rattle.script.specs.Numbers.{Writes};
 
 use crate::help::help_text;
+use calls::{ReadError, WriteError, read_file};
 use faults::Fault;
 use format::{Layout, judge};
 use printed::Refused;
 use script::Number;
-use session::{ReadError, WriteError, read_file};
 use std::alloc::AllocError;
 use std::io;
 use std::process::ExitCode;

@@ -1,14 +1,14 @@
 //! The verb draft: a new file, written from nothing by the calls of a script.
 ghost use Rattle.std.specs.Prelude.{◌≡◌, IfOk, IfErr, IsNone, MatchOption};
-ghost use Rattle.session.specs.declared.drafting.Drafting.TheVariants.{Closed};
+ghost use Rattle.calls.specs.declared.drafting.Drafting.TheVariants.{Closed};
 
 use crate::command_error::{CommandError, number};
 use crate::judge::judge_bytes;
 use crate::words::{MOST, split_force};
-use draft::Start;
-use session::{
+use calls::{
     Answer, CallError, Drafting, Line, Outcome, Room, ScriptError, check_free, write_whole,
 };
+use draft::Start;
 use std::alloc::{AllocError, Global};
 use std::io;
 use std::io::Read;

@@ -5,11 +5,11 @@ ghost use Rattle.kutsvame.specs.Lines.{keys_of, verdict_text};
 
 use crate::command_error::CommandError;
 use crate::progress::Progress;
+use calls::read_file;
 use faults::Fault;
 use format::{Layout, judge};
 use printed::{block_table, key_list};
 use reader::JudgedFile;
-use session::read_file;
 use std::alloc::{AllocError, Global};
 use std::io;
 

@@ -2,8 +2,8 @@
 use crate::command_error::CommandError;
 use crate::draft_words::print_outcome;
 use crate::progress::Progress;
-use runs::Session;
-use session::{CallError, Line, Outcome, ScriptError, read_file};
+use calls::{CallError, Line, Outcome, ScriptError, read_file};
+use session::Session;
 
 /// Prints how the call of a line came out.
 fn print_call<'s>(

@@ -1,14 +1,14 @@
 //! A run: the working file and the draft that the lines of a script act on.
-use crate::calls::Call;
+use crate::names::Call;
 use crate::working::Working;
+use calls::{
+    CallError, Drafting, Line, Outcome, Room, all_numbers, bytes_text, only_bytes, only_number,
+    write_whole,
+};
 use draft::Start;
 use faults::Fault;
 use format::judge;
 use script::{ArgumentError, Words};
-use session::{
-    CallError, Drafting, Line, Outcome, Room, all_numbers, bytes_text, only_bytes, only_number,
-    write_whole,
-};
 
 /// A draft that is open, in a buffer of its own.
 struct Opened {

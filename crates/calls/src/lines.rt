@@ -1,5 +1,5 @@
 //! The lines of a script: each has one call, by its verb and the words behind it.
-ghost use Rattle.session.specs.Lines.{Called};
+ghost use Rattle.calls.specs.Lines.{Called};
 
 use crate::errors::CallError;
 use script::Words;

@@ -1,6 +1,6 @@
 //! How a call came out, and the line that says it.
 ghost use Rattle.std.specs.Prelude.{◌≡◌, Some};
-ghost use Rattle.session.specs.Outcome.{answer_text, outcome_of, number_or_refused, span_or_refused, head_or_refused, judged_or_refused};
+ghost use Rattle.calls.specs.Outcome.{answer_text, outcome_of, number_or_refused, span_or_refused, head_or_refused, judged_or_refused};
 
 use crate::listed::Word;
 use faults::Fault;

@@ -1,6 +1,6 @@
 //! What calls answer, as words: each stands behind a space.
 ghost use Rattle.std.specs.Prelude.{◌≡◌, ◌<◌, IfOk, Some, string_bytes};
-ghost use Rattle.session.specs.Listed.{digit_of, byte_text, word_text, patterns_text, entries_text, bytes_text, reading_text};
+ghost use Rattle.calls.specs.Listed.{digit_of, byte_text, word_text, patterns_text, entries_text, bytes_text, reading_text};
 ghost use Rattle.script.specs.Written.{words_for};
 
 use kinds::Reading;

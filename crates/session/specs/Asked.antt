@@ -8,13 +8,13 @@ use Rattle.faults.specs.declared.fault.Fault.{Fault}
 use Rattle.editor.specs.Calls.{Call, State, load, edit, answer, after}
 use Rattle.editor.specs.Edits.{set, store, carry, lengthen, remove}
 use Rattle.reader.specs.Answers.{version_answer, start_answer, field_answer, row_answer, block_answer}
-use Rattle.runs.specs.declared.calls.Edit.{Edit}
-use Rattle.runs.specs.declared.calls.Edit.TheVariants.{Load, Set, Store, Add, Carry, Lengthen, Replace, Remove, Raise}
-use Rattle.runs.specs.declared.calls.Question.{Question}
-use Rattle.runs.specs.declared.calls.Question.TheVariants.{Version, Start, Field, Row, Numbers, Block, Look, Table}
-use Rattle.session.specs.declared.outcome.Outcome.{Outcome}
-use Rattle.session.specs.Bytes.{SaidBy}
-use Rattle.session.specs.Outcome.{number_or_refused, span_or_refused, head_or_refused}
+use Rattle.session.specs.declared.names.Edit.{Edit}
+use Rattle.session.specs.declared.names.Edit.TheVariants.{Load, Set, Store, Add, Carry, Lengthen, Replace, Remove, Raise}
+use Rattle.session.specs.declared.names.Question.{Question}
+use Rattle.session.specs.declared.names.Question.TheVariants.{Version, Start, Field, Row, Numbers, Block, Look, Table}
+use Rattle.calls.specs.declared.outcome.Outcome.{Outcome}
+use Rattle.calls.specs.Bytes.{SaidBy}
+use Rattle.calls.specs.Outcome.{number_or_refused, span_or_refused, head_or_refused}
 
 -- the number that the first word of a text writes, the second, and the third
 abbrev pub first : List ℕ → ℕ

@@ -1,7 +1,7 @@
 -- The lines of a script.
 use Rattle.std.specs.Prelude.{◌≡◌, ℕ, ◌≢◌, ◌⊎◌, List, Some, None, Option, slice_index}
 use Rattle.script.specs.Words.{word, first_word, behind}
-use Rattle.session.specs.declared.lines.Line.{Line}
+use Rattle.calls.specs.declared.lines.Line.{Line}
 
 -- the first word names the call, and the others follow; a line that has none, or whose first begins with #, which is 35, has no call
 abbrev pub Called : ℕ → List ℕ → Option Line → Type 0

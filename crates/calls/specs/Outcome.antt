@@ -4,9 +4,9 @@ use Rattle.faults.specs.declared.fault.Fault.{Fault}
 use Rattle.faults.specs.Numbers.{number_of, layer_number}
 use Rattle.format.specs.declared.judging.Layout.{Layout}
 use Rattle.reader.specs.declared.blocks.Entry.{Entry}
-use Rattle.session.specs.Listed.{word_text}
-use Rattle.session.specs.declared.outcome.Outcome.{Outcome}
-use Rattle.session.specs.declared.outcome.Outcome.TheVariants.{Done, Refused, Number, Span, Judged, Held, NoFile, Head, Words}
+use Rattle.calls.specs.Listed.{word_text}
+use Rattle.calls.specs.declared.outcome.Outcome.{Outcome}
+use Rattle.calls.specs.declared.outcome.Outcome.TheVariants.{Done, Refused, Number, Span, Judged, Held, NoFile, Head, Words}
 
 -- a call that is accepted is done, and another is refused
 abbrev pub outcome_of : Result (Unit {0}) Fault → Outcome

@@ -1,5 +1,5 @@
 //! The calls that a line of a run can make, by their names.
-ghost use Rattle.runs.specs.Calls.{NamesEdit, NamesQuestion, NamesOfFile, NamesCall};
+ghost use Rattle.session.specs.Names.{NamesEdit, NamesQuestion, NamesOfFile, NamesCall};
 
 /// An edit of the working file.
 #[derive(Clone, Copy, PartialEq, Eq, Debug)]

@@ -1,7 +1,7 @@
 //! The bytes and the numbers that the words of a line say.
 ghost use Rattle.std.specs.Prelude.{◌≡◌, IfOk};
 ghost use Rattle.script.specs.Numbers.{number_for};
-ghost use Rattle.session.specs.Bytes.{SaidBy};
+ghost use Rattle.calls.specs.Bytes.{SaidBy};
 ghost use Rattle.script.specs.Words.{word, behind};
 
 use crate::errors::CallError;

@@ -1,16 +1,16 @@
 //! The edits of a working file, as the words of a line ask for them.
 ghost use Rattle.std.specs.Prelude.{⊤, IfOk};
 ghost use Rattle.editor.specs.Calls.{view};
-ghost use Rattle.runs.specs.Asked.{Made, asked_set, asked_remove, Loaded, Stored, Lengthened, Carried, EditMade};
+ghost use Rattle.session.specs.Asked.{Made, asked_set, asked_remove, Loaded, Stored, Lengthened, Carried, EditMade};
 
-use crate::calls::Edit;
+use crate::names::Edit;
+use calls::{
+    CallError, ForKind, all_numbers, by_key, last_text, next_bytes, only_bytes, only_number,
+};
 use editor::WorkingFile;
 use faults::Fault;
 use kinds::Kind;
 use script::{ArgumentError, FromWords, ToWords, Words, key_of};
-use session::{
-    CallError, ForKind, all_numbers, by_key, last_text, next_bytes, only_bytes, only_number,
-};
 
 /// What an edit answers, or why its line is not done.
 type Edited<'a> = Result<Result<(), Fault>, CallError<'a>>;

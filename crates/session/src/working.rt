@@ -2,15 +2,15 @@
 //! each call.
 ghost use Rattle.std.specs.Prelude.{◌≡◌, length, take, drop, IfOk};
 ghost use Rattle.editor.specs.Calls.{made, file};
-ghost use Rattle.runs.specs.Asked.{Told};
+ghost use Rattle.session.specs.Asked.{Told};
 
-use crate::calls::{Edit, Question};
 use crate::edits::edit;
+use crate::names::{Edit, Question};
 use crate::questions::ask;
+use calls::{CallError, Outcome, Room};
 use editor::WorkingFile;
 use faults::Fault;
 use script::Words;
-use session::{CallError, Outcome, Room};
 use std::alloc::Global;
 
 /// A buffer that holds a file at its start, or none.

@@ -1,18 +1,18 @@
 //! The questions about a working file, as the words of a line ask them.
 ghost use Rattle.std.specs.Prelude.{◌≡◌, ⊤, IfOk};
 ghost use Rattle.editor.specs.Calls.{view, file as file_of};
-ghost use Rattle.runs.specs.Asked.{first, second, third, told_start, told_field, told_row, told_block, Told};
+ghost use Rattle.session.specs.Asked.{first, second, third, told_start, told_field, told_row, told_block, Told};
 ghost use Rattle.reader.specs.Answers.{version_answer};
-ghost use Rattle.session.specs.Outcome.{number_or_refused};
+ghost use Rattle.calls.specs.Outcome.{number_or_refused};
 
-use crate::calls::Question;
+use crate::names::Question;
+use calls::{
+    CallError, ForKind, Outcome, by_key, entries_text, only_number, patterns_text, reading_text,
+};
 use editor::WorkingFile;
 use kinds::Kind;
 use reader::{Entry, RowAt};
 use script::{ArgumentError, FromWords, ToWords, Words};
-use session::{
-    CallError, ForKind, Outcome, by_key, entries_text, only_number, patterns_text, reading_text,
-};
 use std::alloc::{AllocError, Global};
 
 /// A block that is looked at as a kind.

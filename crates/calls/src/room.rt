@@ -1,6 +1,6 @@
 //! The buffer of a draft or of a working file, which may grow as calls want more room.
 ghost use Rattle.std.specs.Prelude.{◌≡◌, IfOk};
-ghost use Rattle.session.specs.Room.{Roomier};
+ghost use Rattle.calls.specs.Room.{Roomier};
 
 use faults::{Fault, Refusal};
 use std::alloc::{AllocError, Global};

@@ -1,6 +1,6 @@
 //! The kinds of block, by the words that name them.
 ghost use Rattle.std.specs.Prelude.{ℕ, List};
-ghost use Rattle.session.specs.Named.{ByKey};
+ghost use Rattle.calls.specs.Named.{ByKey};
 
 use kinds::Kind;
 use records::{Fill, Fwin, Glrm, Loca, Rcvi, Supi, Time};

@@ -1,11 +1,11 @@
 -- Which word names which call of a run.
 use Rattle.std.specs.Prelude.{◌≡◌, ◌≢◌, ℕ, List, Some, None, Option, codes}
-use Rattle.runs.specs.declared.calls.Edit.{Edit}
-use Rattle.runs.specs.declared.calls.Edit.TheVariants.{Load, Set, Store, Add, Carry, Lengthen, Replace, Remove, Raise}
-use Rattle.runs.specs.declared.calls.Question.{Question}
-use Rattle.runs.specs.declared.calls.Question.TheVariants.{Version, Start, Field, Row, Numbers, Block, Look, Table}
-use Rattle.runs.specs.declared.calls.Call.{Call}
-use Rattle.runs.specs.declared.calls.Call.TheVariants.{Judge, Make, Begin, Save, Bytes, Change, Ask, Other}
+use Rattle.session.specs.declared.names.Edit.{Edit}
+use Rattle.session.specs.declared.names.Edit.TheVariants.{Load, Set, Store, Add, Carry, Lengthen, Replace, Remove, Raise}
+use Rattle.session.specs.declared.names.Question.{Question}
+use Rattle.session.specs.declared.names.Question.TheVariants.{Version, Start, Field, Row, Numbers, Block, Look, Table}
+use Rattle.session.specs.declared.names.Call.{Call}
+use Rattle.session.specs.declared.names.Call.TheVariants.{Judge, Make, Begin, Save, Bytes, Change, Ask, Other}
 
 -- the names of the edits; any other word names none
 abbrev pub NamesEdit : List ℕ → Option Edit → Type 0
