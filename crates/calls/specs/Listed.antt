@@ -1,4 +1,4 @@
--- What calls answer, as words, each behind a space.
+-- What calls answer, as words, each after a space.
 use Rattle.std.specs.Prelude.{ℕ, ◌+◌, ◌-◌, ◌/◌, ◌%◌, cond, List, ◌++◌, codes, decimal, length, nat_lt}
 use Rattle.std.proofs.Math.Utf8.{encode}
 use Rattle.std.specs.List.{flat_map}
@@ -17,7 +17,7 @@ byte_text x = encode (digit_of (x / 16)) ++ encode (digit_of (x % 16))
 abbrev pub word_text : ℕ → List ℕ
 word_text x = byte_text (x / 16777216 % 256) ++ (byte_text (x / 65536 % 256) ++ (byte_text (x / 256 % 256) ++ byte_text (x % 256)))
 
--- such a number behind a space
+-- such a number after a space
 abbrev pub pattern_text : ℕ → List ℕ
 pattern_text x = codes " " ++ word_text x
 
@@ -36,7 +36,7 @@ entries_text es = (codes " " ++ decimal (length es)) ++ flat_map entry_text es
 abbrev pub bytes_text : List ℕ → List ℕ
 bytes_text bs = codes " x" ++ encode_lower bs
 
--- what a kind reads in a block, behind which stand the words of its numbers: used 4 text 112 0 1 2 2 4
+-- what a kind reads in a block, after which stand the words of its numbers: used 4 text 112 0 1 2 2 4
 abbrev pub reading_text : ℕ → ℕ → ℕ → List ℕ → List ℕ
 reading_text used place length numbers =
     codes " used " ++ (decimal used ++ (codes " text " ++ (decimal place ++ (codes " " ++ (decimal length ++ numbers)))))

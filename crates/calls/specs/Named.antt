@@ -1,10 +1,10 @@
 -- The kinds of block, by their keys.
 use Rattle.std.specs.Prelude.{◌≢◌, ℕ, List, Some, None, Option, codes}
 
--- what comes of a word that is the key of a kind is what comes of a kind with that key; any other word is the key of none
-abbrev pub ByKey : {O : Type 0} → (List ℕ → O → Type 0) → List ℕ → Option O → Type 0
-ByKey gives word (Some o) = gives word o
-ByKey gives word None =
-    (word ≢ codes "TIME") × (word ≢ codes "LOCA") × (word ≢ codes "RCVI") × (word ≢ codes "GLRM") × (word ≢ codes "SUPI")
-    × (word ≢ codes "FWIN") × (word ≢ codes "FILL") × (word ≢ codes "ZONE") × (word ≢ codes "CITY") × (word ≢ codes "TOOL")
-    × (word ≢ codes "SITD")
+-- what comes of an argument that is the key of a kind is what comes of a kind with that key; any other argument is the key of none
+abbrev pub GivesByKey : {O : Type 0} → (List ℕ → O → Type 0) → List ℕ → Option O → Type 0
+GivesByKey gives argument (Some o) = gives argument o
+GivesByKey gives argument None =
+    (argument ≢ codes "TIME") × (argument ≢ codes "LOCA") × (argument ≢ codes "RCVI") × (argument ≢ codes "GLRM") × (argument ≢ codes "SUPI")
+    × (argument ≢ codes "FWIN") × (argument ≢ codes "FILL") × (argument ≢ codes "ZONE") × (argument ≢ codes "CITY") × (argument ≢ codes "TOOL")
+    × (argument ≢ codes "SITD")

@@ -6,7 +6,7 @@ use Rattle.format.specs.declared.judging.Layout.{Layout}
 use Rattle.reader.specs.declared.blocks.Entry.{Entry}
 use Rattle.calls.specs.Listed.{word_text}
 use Rattle.calls.specs.declared.outcome.Outcome.{Outcome}
-use Rattle.calls.specs.declared.outcome.Outcome.TheVariants.{Done, Refused, Number, Span, Judged, Held, NoFile, Head, Words}
+use Rattle.calls.specs.declared.outcome.Outcome.TheVariants.{Done, Refused, Number, Span, Judged, Held, NoFile, Head, Items}
 
 -- a call that is accepted is done, and another is refused
 abbrev pub outcome_of : Result (Unit {0}) Fault → Outcome
@@ -33,7 +33,7 @@ abbrev pub judged_or_refused : Result Layout Fault → Outcome
 judged_or_refused (Ok layout) = Judged layout
 judged_or_refused (Err fault) = Refused fault
 
--- what stands behind the name of the call: ok and what was answered, or the refusal by its numbers
+-- what stands after the name of the call: ok and what was answered, or the refusal by its numbers
 abbrev pub outcome_text : Outcome → List ℕ
 outcome_text Done = codes " ok"
 outcome_text (Refused f) =
@@ -46,7 +46,7 @@ outcome_text (Judged l) =
 outcome_text (Held length) = codes " ok file " ++ decimal length
 outcome_text NoFile = codes " ok no file"
 outcome_text (Head e) = codes " ok " ++ (word_text e.key ++ (codes " " ++ (decimal e.place ++ (codes " " ++ decimal e.size))))
-outcome_text (Words words) = codes " ok" ++ string_bytes words
+outcome_text (Items items) = codes " ok" ++ string_bytes items
 
 -- line and call, and how it came out: 3 put refused 15 layer 5 block 0 place 255
 abbrev pub answer_text : ℕ → List ℕ → Outcome → List ℕ

@@ -10,7 +10,7 @@ length_for most n (Ok done) = None
 length_for most n (Err f) =
     cond (number_of f.refusal == 32 && (nat_le f.place most && nat_lt n f.place)) (Some (max f.place (min most (2 * n)))) None
 
--- then it has zeros behind; else it stays as it was
-abbrev pub Roomier : ℕ → List ℕ → Result (Unit {0}) Fault → Bool → List ℕ → Type 0
-Roomier most old outcome made new =
+-- then it has zeros after; else it stays as it was
+abbrev pub IsGrown : ℕ → List ℕ → Result (Unit {0}) Fault → Bool → List ℕ → Type 0
+IsGrown most old outcome made new =
     MatchOption (length_for most (length old) outcome) ((made ≡ false) × (new ≡ old)) (λ n. (made ≡ true) × (new ≡ old ++ replicate (n - length old) 0))

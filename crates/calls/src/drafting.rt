@@ -10,14 +10,14 @@ use crate::room::Room;
 use draft::{BlockStage, CellStage, Start};
 use faults::Fault;
 use kinds::Kind;
-use script::{ArgumentError, FromWords, ToWords, Words, key_of};
+use script::{ArgumentError, Arguments, FromArguments, ToArguments, key_of};
 use std::alloc::AllocError;
 
 /// The stage of a draft. It is no `Drop`, as the stages in it: whoever has it ends it, or gives it up.
 pub enum Drafting {
-    /// Blocks are put behind the header.
+    /// Blocks are put after the header.
     Blocks(BlockStage),
-    /// Cells are laid behind the blocks.
+    /// Cells are laid after the blocks.
     Cells(CellStage),
     /// The draft is closed, with so many bytes.
     Closed(usize),
@@ -26,13 +26,13 @@ pub enum Drafting {
 /// What a call leaves: the stage of the draft, and how the call came out.
 type Stepped<'a> = (Drafting, Result<Outcome, CallError<'a>>);
 
-/// A block that is to be put, whose numbers and text the words say.
+/// A block that is to be put, whose numbers and text the arguments say.
 #[derive(Drop)]
 struct BlockToPut<'c, 'a> {
     rt: &'c HostRuntime,
     stage: &'c mut BlockStage,
     room: &'c mut Room,
-    words: Words<'a>,
+    arguments: Arguments<'a>,
 }
 
 impl<'c, 'a> ForKind for BlockToPut<'c, 'a> {
@@ -42,16 +42,16 @@ impl<'c, 'a> ForKind for BlockToPut<'c, 'a> {
 
     fn of<K: Kind>(self) -> Result<Outcome, CallError<'a>>
     where
-        K::Record: FromWords + ToWords,
+        K::Record: FromArguments + ToArguments,
     {
         let BlockToPut {
             rt,
             stage,
             room,
-            mut words,
+            mut arguments,
         } = self;
-        let record = K::Record::from_words(&mut words)?;
-        let text = last_text(rt, words)?;
+        let record = K::Record::from_arguments(&mut arguments)?;
+        let text = last_text(rt, arguments)?;
         let outcome = stage.put::<K>(room.bytes.as_mut_slice(), record, text.as_slice());
         if room.grow(outcome)? {
             let outcome = stage.put::<K>(room.bytes.as_mut_slice(), record, text.as_slice());
@@ -61,32 +61,32 @@ impl<'c, 'a> ForKind for BlockToPut<'c, 'a> {
     }
 }
 
-/// Puts a block of the kind that the first word names.
+/// Puts a block of the kind that the first argument names.
 fn put<'a>(
     rt: &HostRuntime,
     stage: &mut BlockStage,
     room: &mut Room,
-    mut words: Words<'a>,
+    mut arguments: Arguments<'a>,
 ) -> Result<Outcome, CallError<'a>> {
-    let word = words.next().ok_or(ArgumentError::Missing)?;
+    let argument = arguments.next().ok_or(ArgumentError::Missing)?;
     let block = BlockToPut {
         rt,
         stage,
         room,
-        words,
+        arguments,
     };
-    by_key(word, block).ok_or(ArgumentError::NoKind)?
+    by_key(argument, block).ok_or(ArgumentError::NoKind)?
 }
 
-/// Puts a block whose key and data the words say.
+/// Puts a block whose key and data the arguments say.
 fn put_raw<'a>(
     rt: &HostRuntime,
     stage: &mut BlockStage,
     room: &mut Room,
-    mut words: Words<'a>,
+    mut arguments: Arguments<'a>,
 ) -> Result<Outcome, CallError<'a>> {
-    let key = key_of(next_bytes(rt, &mut words)?.as_slice())?;
-    let body = only_bytes(rt, words)?;
+    let key = key_of(next_bytes(rt, &mut arguments)?.as_slice())?;
+    let body = only_bytes(rt, arguments)?;
     let outcome = stage.carry(room.bytes.as_mut_slice(), key, body.as_slice());
     if room.grow(outcome)? {
         let outcome = stage.carry(room.bytes.as_mut_slice(), key, body.as_slice());
@@ -108,25 +108,30 @@ fn lay_cell<'a>(stage: CellStage, room: &mut Room, cell: &[u8]) -> Stepped<'a> {
     }
 }
 
-/// Lays the cell whose bytes the only word says.
-fn lay<'a>(rt: &HostRuntime, stage: CellStage, room: &mut Room, words: Words<'a>) -> Stepped<'a> {
-    match only_bytes(rt, words) {
+/// Lays the cell whose bytes the only argument says.
+fn lay<'a>(
+    rt: &HostRuntime,
+    stage: CellStage,
+    room: &mut Room,
+    arguments: Arguments<'a>,
+) -> Stepped<'a> {
+    match only_bytes(rt, arguments) {
         Ok(cell) => lay_cell(stage, room, cell.as_slice()),
         Err(error) => (Drafting::Cells(stage), Err(error)),
     }
 }
 
 /// Turns from blocks to cells.
-fn turn(stage: BlockStage, words: Words<'_>) -> Stepped<'_> {
-    match words.end() {
+fn turn(stage: BlockStage, arguments: Arguments<'_>) -> Stepped<'_> {
+    match arguments.end() {
         Ok(()) => (Drafting::Cells(stage.turn()), Ok(Outcome::Done)),
         Err(error) => (Drafting::Blocks(stage), Err(error.into())),
     }
 }
 
 /// Closes a draft.
-fn close(stage: CellStage, words: Words<'_>) -> Stepped<'_> {
-    if let Err(error) = words.end() {
+fn close(stage: CellStage, arguments: Arguments<'_>) -> Stepped<'_> {
+    if let Err(error) = arguments.end() {
         return (Drafting::Cells(stage), Err(error.into()));
     }
     match stage.close() {
@@ -144,14 +149,14 @@ fn call_blocks<'a>(
 ) -> Stepped<'a> {
     match line.verb {
         "put" => {
-            let outcome = put(rt, &mut stage, room, line.words);
+            let outcome = put(rt, &mut stage, room, line.arguments);
             (Drafting::Blocks(stage), outcome)
         }
         "put-raw" => {
-            let outcome = put_raw(rt, &mut stage, room, line.words);
+            let outcome = put_raw(rt, &mut stage, room, line.arguments);
             (Drafting::Blocks(stage), outcome)
         }
-        "turn" => turn(stage, line.words),
+        "turn" => turn(stage, line.arguments),
         _ => (Drafting::Blocks(stage), Err(CallError::NoCall(line.verb))),
     }
 }
@@ -164,8 +169,8 @@ fn call_cells<'a>(
     line: Line<'a>,
 ) -> Stepped<'a> {
     match line.verb {
-        "lay" => lay(rt, stage, room, line.words),
-        "close" => close(stage, line.words),
+        "lay" => lay(rt, stage, room, line.arguments),
+        "close" => close(stage, line.arguments),
         _ => (Drafting::Cells(stage), Err(CallError::NoCall(line.verb))),
     }
 }

@@ -8,13 +8,13 @@ use thiserror::Error;
 /// Why the call of a line is not made.
 #[derive(Debug, Drop, Error)]
 pub enum CallError<'a> {
-    /// Its first word names no call that can be made there.
+    /// Its first argument names no call that can be made there.
     #[error("no call at this stage: {0}")]
     NoCall(&'a str),
     /// It is no text.
     #[error("no text in UTF-8")]
     NoText,
-    /// Its words cannot be read.
+    /// Its arguments cannot be read.
     #[error(transparent)]
     Argument(#[from] ArgumentError),
     /// A file that it names cannot be read.

@@ -1,8 +1,8 @@
-//! The lines of a script: each has one call, by its verb and the words behind it.
-ghost use Rattle.calls.specs.Lines.{Called};
+//! The lines of a script: each has one call, by its verb and the arguments after it.
+ghost use Rattle.calls.specs.Lines.{IsCallOf};
 
 use crate::errors::CallError;
-use script::Words;
+use script::Arguments;
 use std::str::from_utf8;
 
 /// A line that has a call.
@@ -12,24 +12,24 @@ pub struct Line<'a> {
     pub number: usize,
     /// The name of the call.
     pub verb: &'a str,
-    /// The words behind it.
-    pub words: Words<'a>,
+    /// The arguments after it.
+    pub arguments: Arguments<'a>,
 }
 
 impl<'a> Line<'a> {
     /// The call of a line; nothing where the line is blank or a comment.
     pub fn of(number: usize, text: &'a str) -> Option<Line<'a>>
-        ensures { Called number text.now result }
+        ensures { IsCallOf number text.now result }
     {
-        let mut words = Words::of(text);
-        let verb = words.next()?;
+        let mut arguments = Arguments::of(text);
+        let verb = arguments.next()?;
         if verb.starts_with('#') {
             return None;
         }
         Some(Line {
             number,
             verb,
-            words,
+            arguments,
         })
     }
 

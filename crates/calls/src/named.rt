@@ -1,10 +1,10 @@
-//! The kinds of block, by the words that name them.
+//! The kinds of block, by the arguments that name them.
 ghost use Rattle.std.specs.Prelude.{ℕ, List};
-ghost use Rattle.calls.specs.Named.{ByKey};
+ghost use Rattle.calls.specs.Named.{GivesByKey};
 
 use kinds::Kind;
 use records::{Fill, Fwin, Glrm, Loca, Rcvi, Supi, Time};
-use script::{FromWords, ToWords};
+use script::{FromArguments, ToArguments};
 use texts::{City, Sitd, Tool, Zone};
 
 /// What is to be done with a kind, whichever it is.
@@ -17,16 +17,16 @@ pub trait ForKind: Drop {
     /// Does it with a kind.
     fn of<K: Kind>(self) -> Self::Output
     where
-        K::Record: FromWords + ToWords,
+        K::Record: FromArguments + ToArguments,
         ensures { gives self K.kind.key result };
 }
 
-/// Does it with the kind whose key a word is; nothing where the word is the key of no kind.
-pub fn by_key<C: ForKind>(word: &str, call: C) -> Option<C::Output>
-    ensures { ByKey (C.gives call) word.now result }
+/// Does it with the kind whose key an argument is; nothing where the argument is the key of no kind.
+pub fn by_key<C: ForKind>(argument: &str, call: C) -> Option<C::Output>
+    ensures { GivesByKey (C.gives call) argument.now result }
 {
     // A match and no table: each arm is a call at a type of its own.
-    match word {
+    match argument {
         "TIME" => Some(call.of::<Time>()),
         "LOCA" => Some(call.of::<Loca>()),
         "RCVI" => Some(call.of::<Rcvi>()),

@@ -27,8 +27,8 @@ pub enum Outcome {
     NoFile,
     /// It answered a block, by its head.
     Head(Entry),
-    /// It answered words, each behind a space.
-    Words(String),
+    /// It answered a list of items, each after a space.
+    Items(String),
 }
 
 impl From<Result<(), Fault>> for Outcome {
@@ -129,7 +129,7 @@ impl fmt::Display for Answer<'_> {
                 entry.place,
                 entry.size,
             ),
-            Outcome::Words(words) => write!(f, "{line} {verb} ok{}", words.as_str()),
+            Outcome::Items(items) => write!(f, "{line} {verb} ok{}", items.as_str()),
         }
     }
 }

@@ -1,6 +1,6 @@
 //! The buffer of a draft or of a working file, which may grow as calls want more room.
 ghost use Rattle.std.specs.Prelude.{◌≡◌, IfOk};
-ghost use Rattle.calls.specs.Room.{Roomier};
+ghost use Rattle.calls.specs.Room.{IsGrown};
 
 use faults::{Fault, Refusal};
 use std::alloc::{AllocError, Global};
@@ -23,10 +23,10 @@ impl Room {
 
     // A bool: not to grow is no failure, and then the call's own refusal stands.
 
-    /// Makes the buffer longer, with zeros behind, for a call that was refused for want of room; whether it is longer now, so
+    /// Makes the buffer longer, with zeros after, for a call that was refused for want of room; whether it is longer now, so
     /// that the call may be made again.
     pub fn grow(&mut self, outcome: Result<(), Fault>) -> Result<bool, AllocError>
-        ensures grown { IfOk result (λ made. Roomier self.old.most self.old.bytes.items outcome made self.new.bytes.items) }
+        ensures grown { IfOk result (λ made. IsGrown self.old.most self.old.bytes.items outcome made self.new.bytes.items) }
         ensures most { self.new.most ≡ self.old.most }
     {
         let Err(fault) = outcome else {

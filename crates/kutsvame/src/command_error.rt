@@ -1,8 +1,8 @@
 //! Why what the command line asks is not done, and what is said of it.
 ghost use Rattle.std.specs.Prelude.{IfErr};
 ghost use Rattle.std.specs.Result.{result_ok};
-ghost use Rattle.kutsvame.specs.Misuse.{NoNumber};
-ghost use Rattle.script.specs.Numbers.{Writes};
+ghost use Rattle.kutsvame.specs.Misuse.{SaysNoNumber};
+ghost use Rattle.script.specs.Numbers.{NamesNumber};
 
 use crate::help::help_text;
 use calls::{ReadError, WriteError, read_file};
@@ -18,7 +18,7 @@ use thiserror::Error;
 /// Why not all is done.
 #[derive(Debug, Drop, Error)]
 pub enum CommandError<'a> {
-    /// The words name nothing to do: why, and the word.
+    /// The arguments name nothing to do: why, and the argument.
     #[error("{0}: {1}")]
     Misused(&'static str, &'a str),
     /// A file cannot be read.
@@ -33,7 +33,7 @@ pub enum CommandError<'a> {
     /// A line that is printed already says why.
     #[error("not done, as is said above")]
     Reported,
-    /// The words cannot be read, nothing can be printed, or there is no memory.
+    /// The arguments cannot be read, nothing can be printed, or there is no memory.
     #[error(transparent)]
     Io(#[from] io::Error),
 }
@@ -49,8 +49,8 @@ impl CommandError<'_> {
     /// the program.
     pub fn report(self, rt: &HostRuntime) -> io::Result<ExitCode> {
         match self {
-            CommandError::Misused(why, word) => {
-                let misused = CommandError::Misused(why, word);
+            CommandError::Misused(why, argument) => {
+                let misused = CommandError::Misused(why, argument);
                 eprintln!(rt; "kutsvame: {misused}\n")?;
                 rt.eprint(help_text(rt.alloc())?)?;
             }
@@ -72,10 +72,10 @@ pub fn read_accepted<'a>(
     Ok((bytes, layout))
 }
 
-/// The number that a word writes in decimal digits, if it fits its type.
-pub fn number<N: Number>(word: &str) -> Result<N, CommandError<'_>>
-    ensures number { Writes N.number N.part word.now (result_ok result) }
-    ensures told { IfErr result (NoNumber word.now) }
+/// The number that an argument writes in decimal digits, if it fits its type.
+pub fn number<N: Number>(argument: &str) -> Result<N, CommandError<'_>>
+    ensures number { NamesNumber N.number N.part argument.now (result_ok result) }
+    ensures told { IfErr result (SaysNoNumber argument.now) }
 {
-    N::named(word).ok_or(CommandError::Misused("no decimal number", word))
+    N::named(argument).ok_or(CommandError::Misused("no decimal number", argument))
 }

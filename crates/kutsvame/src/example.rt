@@ -1,8 +1,8 @@
-//! What the program does with no words: the built-in example file is judged, drafted anew, and amended as a working file.
+//! What the program does with no arguments: the built-in example file is judged, drafted anew, and amended as a working file.
+use crate::arguments::LEVEL;
 use crate::blocks_shown::show_blocks;
 use crate::calls_shown::Outcome;
 use crate::judge::judge_bytes;
-use crate::words::LEVEL;
 use draft::{Drafted, Parts, Start, draft_file};
 use editor::{Amended, Amendment, amend};
 use examples::{example_file, example_with_extent, example_with_section};

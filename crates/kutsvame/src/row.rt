@@ -1,6 +1,6 @@
 //! The verb row: the numbers of a row.
+use crate::arguments::LEVEL;
 use crate::command_error::{CommandError, number, read_accepted};
-use crate::words::LEVEL;
 use printed::{RowError, row_patterns};
 use reader::{JudgedFile, RowAt};
 use std::io;
@@ -27,9 +27,9 @@ fn row_of_file<'a>(rt: &HostRuntime, name: &'a str, at: RowAt) -> Result<(), Com
     Ok(())
 }
 
-/// Does what the words FILE CELL ROW [LEVEL] ask.
-pub fn row_words<'a>(rt: &HostRuntime, words: &'a [String]) -> Result<(), CommandError<'a>> {
-    let (file, cell, row, level) = match words {
+/// Does what the arguments FILE CELL ROW [LEVEL] ask.
+pub fn row_verb<'a>(rt: &HostRuntime, arguments: &'a [String]) -> Result<(), CommandError<'a>> {
+    let (file, cell, row, level) = match arguments {
         [file, cell, row] => (file, number(cell.as_str())?, number(row.as_str())?, LEVEL),
         [file, cell, row, level] => (
             file,

@@ -1,7 +1,7 @@
 //! The verb show: the sizes, fields and blocks of a file, as a reader of a level sees them.
+use crate::arguments::LEVEL;
 use crate::blocks_shown::show_blocks;
 use crate::command_error::{CommandError, number, read_accepted};
-use crate::words::LEVEL;
 use format::Layout;
 use printed::{FieldLine, Opening, SizesText};
 use reader::{JudgedFile, RowAt};
@@ -56,9 +56,9 @@ fn show_file<'a>(rt: &HostRuntime, name: &'a str, level: usize) -> Result<(), Co
     show_accepted(rt, name, bytes.as_slice(), layout, level)
 }
 
-/// Does what the words FILE [LEVEL] ask.
-pub fn show_words<'a>(rt: &HostRuntime, words: &'a [String]) -> Result<(), CommandError<'a>> {
-    match words {
+/// Does what the arguments FILE [LEVEL] ask.
+pub fn show_verb<'a>(rt: &HostRuntime, arguments: &'a [String]) -> Result<(), CommandError<'a>> {
+    match arguments {
         [file] => show_file(rt, file.as_str(), LEVEL),
         [file, level] => show_file(rt, file.as_str(), number(level.as_str())?),
         _ => Err(CommandError::Misused("wrong count of words", "show")),

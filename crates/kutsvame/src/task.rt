@@ -1,8 +1,8 @@
 //! A task from start to end on built-in data: a station's file is drafted and judged, raised, given blocks, and read. Nothing is saved.
+use crate::arguments::LEVEL;
 use crate::blocks_shown::show_blocks;
 use crate::calls_shown::Outcome;
 use crate::judge::judge_bytes;
-use crate::words::LEVEL;
 use draft::{BlockStage, Start};
 use editor::WorkingFile;
 use faults::Fault;
@@ -74,7 +74,7 @@ fn draft_station(buffer: &mut [u8]) -> Result<usize, Fault> {
     }
 }
 
-/// Raises the file by two versions, and puts four blocks behind its header.
+/// Raises the file by two versions, and puts four blocks after its header.
 fn fill_file(rt: &HostRuntime, file: &mut WorkingFile<'_>) -> io::Result<()> {
     rt.println(
         "2. It is raised to version 5 with the values of five fields, and to version 6, which has no more fields:",
@@ -125,7 +125,7 @@ fn row_numbers(file: &WorkingFile<'_>, level: usize) -> Result<[u32; 8], Fault> 
     Ok(numbers)
 }
 
-/// The bit patterns of numbers, each behind a space.
+/// The bit patterns of numbers, each after a space.
 #[derive(Drop)]
 struct Patterns([u32; 8]);
 

@@ -8,14 +8,14 @@ use Rattle.reader.specs.declared.blocks.Entry.{Entry}
 abbrev pub letter_of : ℕ → ℕ → ℕ → ℕ
 letter_of first last x = cond (nat_le first x && nat_le x last) x 63
 
--- a key, given as the big-endian number of its four bytes, behind the first and the last byte shown
+-- a key, given as the big-endian number of its four bytes, after the first and the last byte shown
 abbrev pub key_text : ℕ → ℕ → ℕ → List ℕ
 key_text first last key =
     encode (letter_of first last (key / 16777216 % 256))
     ++ (encode (letter_of first last (key / 65536 % 256))
     ++ (encode (letter_of first last (key / 256 % 256)) ++ encode (letter_of first last (key % 256))))
 
--- the key of one more block, behind a comma
+-- the key of one more block, after a comma
 abbrev pub more_key : ℕ → ℕ → Entry → List ℕ
 more_key first last e = codes ", " ++ key_text first last e.key
 

@@ -18,7 +18,7 @@ pub struct Key<const FIRST: u8, const LAST: u8>(pub u32);
 
 // Both ends are the caller's, though all share the last: which letters a line shows is a rule of the line.
 
-/// A byte as a letter; what lies before the first byte shown or behind the last is a question mark.
+/// A byte as a letter; what lies before the first byte shown or after the last is a question mark.
 pub fn letter<const FIRST: u8, const LAST: u8>(byte: u8) -> char
     ensures { result ≡ letter_of FIRST LAST byte }
 {

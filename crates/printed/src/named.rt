@@ -1,4 +1,4 @@
-//! What the kinds read in a block's data, as it is printed: each number behind its name, and the text in quotes.
+//! What the kinds read in a block's data, as it is printed: each number after its name, and the text in quotes.
 ghost use Rattle.std.specs.Prelude.{◌≡◌, IfOk, Some, string_bytes};
 ghost use Rattle.printed.specs.Blocks.{quoted_text, fill_text};
 

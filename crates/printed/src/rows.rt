@@ -1,7 +1,7 @@
 //! The numbers of a row, in a list of just their count.
 ghost use Rattle.std.specs.Prelude.{◌≡◌, vec_items};
 ghost use Rattle.printed.specs.declared.rows.RowError.TheVariants.{Refused, OutOfMemory};
-ghost use Rattle.printed.specs.Patterns.{row_patterns, Holds};
+ghost use Rattle.printed.specs.Patterns.{row_patterns, HoldsPatterns};
 
 use faults::Fault;
 use reader::{JudgedFile, RowAt};
@@ -37,7 +37,7 @@ impl From<AllocError> for RowError {
 
 /// The patterns of a row; refuses as `JudgedFile::row` does.
 pub fn row_patterns(heap: Global, file: &JudgedFile, at: RowAt) -> Result<Vec<u32>, RowError>
-    ensures { Holds vec_items (row_patterns file.now.bytes.now at.level at.cell at.row) result }
+    ensures { HoldsPatterns vec_items (row_patterns file.now.bytes.now at.level at.cell at.row) result }
 {
     let (_, length) = file.row(at)?;
     let mut list = vec![in heap; 0; length / 4]?;

@@ -2,5 +2,5 @@ pub mod ArgumentError
 pub mod Numbers
 pub mod Records
 pub mod Written
-pub mod Words
+pub mod Arguments
 pub mod Literal

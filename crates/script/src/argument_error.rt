@@ -4,16 +4,16 @@ ghost use Rattle.script.specs.ArgumentError.{argument_error_text};
 
 use std::{error, fmt};
 
-/// Why a word, or a line of words, cannot be read.
+/// Why an argument, or a line of arguments, cannot be read.
 #[derive(Clone, Copy, PartialEq, Eq, Debug)]
 pub enum ArgumentError {
-    /// The line ends before the call has all its words.
+    /// The line ends before the call has all its arguments.
     Missing,
-    /// The line has more words than the call takes.
+    /// The line has more arguments than the call takes.
     TooMany,
-    /// A word is no decimal number that fits its place.
+    /// An argument is no decimal number that fits its place.
     NoNumber,
-    /// A word does not say bytes.
+    /// An argument does not say bytes.
     NoBytes,
     /// The count of hexadecimal digits is odd.
     OddDigits,
@@ -21,7 +21,7 @@ pub enum ArgumentError {
     NoDigit,
     /// A key has another count of bytes than four.
     NoKey,
-    /// A word names no kind of block.
+    /// An argument names no kind of block.
     NoKind,
     /// There is no memory for the bytes.
     OutOfMemory,

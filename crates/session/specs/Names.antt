@@ -1,4 +1,4 @@
--- Which word names which call of a run.
+-- Which argument names which call of a run.
 use Rattle.std.specs.Prelude.{◌≡◌, ◌≢◌, ℕ, List, Some, None, Option, codes}
 use Rattle.session.specs.declared.names.Edit.{Edit}
 use Rattle.session.specs.declared.names.Edit.TheVariants.{Load, Set, Store, Add, Carry, Lengthen, Replace, Remove, Raise}
@@ -7,55 +7,55 @@ use Rattle.session.specs.declared.names.Question.TheVariants.{Version, Start, Fi
 use Rattle.session.specs.declared.names.Call.{Call}
 use Rattle.session.specs.declared.names.Call.TheVariants.{Judge, Make, Begin, Save, Bytes, Change, Ask, Other}
 
--- the names of the edits; any other word names none
+-- the names of the edits; any other argument names none
 abbrev pub NamesEdit : List ℕ → Option Edit → Type 0
-NamesEdit word (Some Load) = word ≡ codes "load"
-NamesEdit word (Some Set) = word ≡ codes "set"
-NamesEdit word (Some Store) = word ≡ codes "store"
-NamesEdit word (Some Add) = word ≡ codes "add"
-NamesEdit word (Some Carry) = word ≡ codes "carry"
-NamesEdit word (Some Lengthen) = word ≡ codes "lengthen"
-NamesEdit word (Some Replace) = word ≡ codes "replace"
-NamesEdit word (Some Remove) = word ≡ codes "drop"
-NamesEdit word (Some Raise) = word ≡ codes "raise"
-NamesEdit word None =
-    (word ≢ codes "load") × (word ≢ codes "set") × (word ≢ codes "store") × (word ≢ codes "add") × (word ≢ codes "carry")
-    × (word ≢ codes "lengthen") × (word ≢ codes "replace") × (word ≢ codes "drop") × (word ≢ codes "raise")
+NamesEdit argument (Some Load) = argument ≡ codes "load"
+NamesEdit argument (Some Set) = argument ≡ codes "set"
+NamesEdit argument (Some Store) = argument ≡ codes "store"
+NamesEdit argument (Some Add) = argument ≡ codes "add"
+NamesEdit argument (Some Carry) = argument ≡ codes "carry"
+NamesEdit argument (Some Lengthen) = argument ≡ codes "lengthen"
+NamesEdit argument (Some Replace) = argument ≡ codes "replace"
+NamesEdit argument (Some Remove) = argument ≡ codes "drop"
+NamesEdit argument (Some Raise) = argument ≡ codes "raise"
+NamesEdit argument None =
+    (argument ≢ codes "load") × (argument ≢ codes "set") × (argument ≢ codes "store") × (argument ≢ codes "add") × (argument ≢ codes "carry")
+    × (argument ≢ codes "lengthen") × (argument ≢ codes "replace") × (argument ≢ codes "drop") × (argument ≢ codes "raise")
 
--- the names of the questions; any other word names none
+-- the names of the questions; any other argument names none
 abbrev pub NamesQuestion : List ℕ → Option Question → Type 0
-NamesQuestion word (Some Version) = word ≡ codes "version"
-NamesQuestion word (Some Start) = word ≡ codes "start"
-NamesQuestion word (Some Field) = word ≡ codes "field"
-NamesQuestion word (Some Row) = word ≡ codes "row"
-NamesQuestion word (Some Numbers) = word ≡ codes "numbers"
-NamesQuestion word (Some Block) = word ≡ codes "block"
-NamesQuestion word (Some Look) = word ≡ codes "look"
-NamesQuestion word (Some Table) = word ≡ codes "table"
-NamesQuestion word None =
-    (word ≢ codes "version") × (word ≢ codes "start") × (word ≢ codes "field") × (word ≢ codes "row") × (word ≢ codes "numbers")
-    × (word ≢ codes "block") × (word ≢ codes "look") × (word ≢ codes "table")
+NamesQuestion argument (Some Version) = argument ≡ codes "version"
+NamesQuestion argument (Some Start) = argument ≡ codes "start"
+NamesQuestion argument (Some Field) = argument ≡ codes "field"
+NamesQuestion argument (Some Row) = argument ≡ codes "row"
+NamesQuestion argument (Some Numbers) = argument ≡ codes "numbers"
+NamesQuestion argument (Some Block) = argument ≡ codes "block"
+NamesQuestion argument (Some Look) = argument ≡ codes "look"
+NamesQuestion argument (Some Table) = argument ≡ codes "table"
+NamesQuestion argument None =
+    (argument ≢ codes "version") × (argument ≢ codes "start") × (argument ≢ codes "field") × (argument ≢ codes "row") × (argument ≢ codes "numbers")
+    × (argument ≢ codes "block") × (argument ≢ codes "look") × (argument ≢ codes "table")
 
--- an edit or a question, by its name; any other word is neither's
+-- an edit or a question, by its name; any other argument is neither's
 abbrev pub NamesOfFile : List ℕ → Call → Type 0
-NamesOfFile word (Change e) = NamesEdit word (Some e)
-NamesOfFile word (Ask q) = NamesQuestion word (Some q)
-NamesOfFile word Other = NamesEdit word None × NamesQuestion word None
-NamesOfFile word Judge = ⊥
-NamesOfFile word Make = ⊥
-NamesOfFile word Begin = ⊥
-NamesOfFile word Save = ⊥
-NamesOfFile word Bytes = ⊥
+NamesOfFile argument (Change e) = NamesEdit argument (Some e)
+NamesOfFile argument (Ask q) = NamesQuestion argument (Some q)
+NamesOfFile argument Other = NamesEdit argument None × NamesQuestion argument None
+NamesOfFile argument Judge = ⊥
+NamesOfFile argument Make = ⊥
+NamesOfFile argument Begin = ⊥
+NamesOfFile argument Save = ⊥
+NamesOfFile argument Bytes = ⊥
 
--- the names of the calls; any other word is left to the draft
+-- the names of the calls; any other argument is left to the draft
 abbrev pub NamesCall : List ℕ → Call → Type 0
-NamesCall word Judge = word ≡ codes "judge"
-NamesCall word Make = word ≡ codes "make"
-NamesCall word Begin = word ≡ codes "begin"
-NamesCall word Save = word ≡ codes "save"
-NamesCall word Bytes = word ≡ codes "bytes"
-NamesCall word (Change e) = NamesEdit word (Some e)
-NamesCall word (Ask q) = NamesQuestion word (Some q)
-NamesCall word Other =
-    (word ≢ codes "judge") × (word ≢ codes "make") × (word ≢ codes "begin") × (word ≢ codes "save") × (word ≢ codes "bytes")
-    × NamesEdit word None × NamesQuestion word None
+NamesCall argument Judge = argument ≡ codes "judge"
+NamesCall argument Make = argument ≡ codes "make"
+NamesCall argument Begin = argument ≡ codes "begin"
+NamesCall argument Save = argument ≡ codes "save"
+NamesCall argument Bytes = argument ≡ codes "bytes"
+NamesCall argument (Change e) = NamesEdit argument (Some e)
+NamesCall argument (Ask q) = NamesQuestion argument (Some q)
+NamesCall argument Other =
+    (argument ≢ codes "judge") × (argument ≢ codes "make") × (argument ≢ codes "begin") × (argument ≢ codes "save") × (argument ≢ codes "bytes")
+    × NamesEdit argument None × NamesQuestion argument None

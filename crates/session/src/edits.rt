@@ -1,7 +1,7 @@
-//! The edits of a working file, as the words of a line ask for them.
+//! The edits of a working file, as the arguments of a line ask for them.
 ghost use Rattle.std.specs.Prelude.{⊤, IfOk};
 ghost use Rattle.editor.specs.Calls.{view};
-ghost use Rattle.session.specs.Asked.{Made, asked_set, asked_remove, Loaded, Stored, Lengthened, Carried, EditMade};
+ghost use Rattle.session.specs.LineCalls.{MakesCall, set_call, remove_call, MakesLoad, MakesStore, MakesLengthen, MakesCarry, MakesEdit};
 
 use crate::names::Edit;
 use calls::{
@@ -10,18 +10,18 @@ use calls::{
 use editor::WorkingFile;
 use faults::Fault;
 use kinds::Kind;
-use script::{ArgumentError, FromWords, ToWords, Words, key_of};
+use script::{ArgumentError, Arguments, FromArguments, ToArguments, key_of};
 
 /// What an edit answers, or why its line is not done.
 type Edited<'a> = Result<Result<(), Fault>, CallError<'a>>;
 
-/// A block of a kind whose numbers and text the words say: a new one, or one in the place of the block of that number.
+/// A block of a kind whose numbers and text the arguments say: a new one, or one in the place of the block of that number.
 #[derive(Drop)]
 struct BlockToWrite<'c, 'f, 'a> {
     rt: &'c HostRuntime,
     file: &'c mut WorkingFile<'f>,
     number: Option<usize>,
-    words: Words<'a>,
+    arguments: Arguments<'a>,
 }
 
 impl<'c, 'f, 'a> ForKind for BlockToWrite<'c, 'f, 'a> {
@@ -31,16 +31,16 @@ impl<'c, 'f, 'a> ForKind for BlockToWrite<'c, 'f, 'a> {
 
     fn of<K: Kind>(self) -> Edited<'a>
     where
-        K::Record: FromWords + ToWords,
+        K::Record: FromArguments + ToArguments,
     {
         let BlockToWrite {
             rt,
             file,
             number,
-            mut words,
+            mut arguments,
         } = self;
-        let record = K::Record::from_words(&mut words)?;
-        let text = last_text(rt, words)?;
+        let record = K::Record::from_arguments(&mut arguments)?;
+        let text = last_text(rt, arguments)?;
         match number {
             Some(number) => Ok(file.replace::<K>(number, record, text.as_slice())),
             None => Ok(file.add::<K>(record, text.as_slice())),
@@ -48,79 +48,95 @@ impl<'c, 'f, 'a> ForKind for BlockToWrite<'c, 'f, 'a> {
     }
 }
 
-/// Writes a block of the kind that the next word names: a new one, or one in the place of the block of that number.
+/// NamesNumber a block of the kind that the next argument names: a new one, or one in the place of the block of that number.
 fn write_block<'a>(
     rt: &HostRuntime,
     file: &mut WorkingFile<'_>,
     number: Option<usize>,
-    mut words: Words<'a>,
+    mut arguments: Arguments<'a>,
 ) -> Edited<'a> {
-    let word = words.next().ok_or(ArgumentError::Missing)?;
+    let argument = arguments.next().ok_or(ArgumentError::Missing)?;
     let block = BlockToWrite {
         rt,
         file,
         number,
-        words,
+        arguments,
     };
-    by_key(word, block).ok_or(ArgumentError::NoKind)?
+    by_key(argument, block).ok_or(ArgumentError::NoKind)?
 }
 
 /// Carries a block.
-fn carry<'a>(rt: &HostRuntime, file: &mut WorkingFile<'_>, mut words: Words<'a>) -> Edited<'a>
-    ensures { IfOk result (λ done. Carried words.entry.rest.now (view file.old) done (view file.new)) }
+fn carry<'a>(
+    rt: &HostRuntime,
+    file: &mut WorkingFile<'_>,
+    mut arguments: Arguments<'a>,
+) -> Edited<'a>
+    ensures { IfOk result (λ done. MakesCarry arguments.entry.rest.now (view file.old) done (view file.new)) }
 {
-    let key = key_of(next_bytes(rt, &mut words)?.as_slice())?;
-    let body = only_bytes(rt, words)?;
+    let key = key_of(next_bytes(rt, &mut arguments)?.as_slice())?;
+    let body = only_bytes(rt, arguments)?;
     Ok(file.carry(key, body.as_slice()))
 }
 
 /// Lengthens a block.
-fn lengthen<'a>(rt: &HostRuntime, file: &mut WorkingFile<'_>, mut words: Words<'a>) -> Edited<'a>
-    ensures { IfOk result (λ done. Lengthened words.entry.rest.now (view file.old) done (view file.new)) }
+fn lengthen<'a>(
+    rt: &HostRuntime,
+    file: &mut WorkingFile<'_>,
+    mut arguments: Arguments<'a>,
+) -> Edited<'a>
+    ensures { IfOk result (λ done. MakesLengthen arguments.entry.rest.now (view file.old) done (view file.new)) }
 {
-    let number = words.number()?;
-    let more = only_bytes(rt, words)?;
+    let number = arguments.number()?;
+    let more = only_bytes(rt, arguments)?;
     Ok(file.lengthen(number, more.as_slice()))
 }
 
 /// Stores a row.
-fn store<'a>(rt: &HostRuntime, file: &mut WorkingFile<'_>, mut words: Words<'a>) -> Edited<'a>
-    ensures { IfOk result (λ done. Stored words.entry.rest.now (view file.old) done (view file.new)) }
+fn store<'a>(
+    rt: &HostRuntime,
+    file: &mut WorkingFile<'_>,
+    mut arguments: Arguments<'a>,
+) -> Edited<'a>
+    ensures { IfOk result (λ done. MakesStore arguments.entry.rest.now (view file.old) done (view file.new)) }
 {
-    let cell = words.number()?;
-    let row = words.number()?;
-    let bytes = only_bytes(rt, words)?;
+    let cell = arguments.number()?;
+    let row = arguments.number()?;
+    let bytes = only_bytes(rt, arguments)?;
     Ok(file.store(cell, row, bytes.as_slice()))
 }
 
 /// Sets a field.
-fn set<'a>(file: &mut WorkingFile<'_>, mut words: Words<'a>) -> Edited<'a>
-    ensures { IfOk result (λ done. Made (asked_set words.entry.rest.now) (view file.old) done (view file.new)) }
+fn set<'a>(file: &mut WorkingFile<'_>, mut arguments: Arguments<'a>) -> Edited<'a>
+    ensures { IfOk result (λ done. MakesCall (set_call arguments.entry.rest.now) (view file.old) done (view file.new)) }
 {
-    let number = words.number()?;
-    let value = only_number(words)?;
+    let number = arguments.number()?;
+    let value = only_number(arguments)?;
     Ok(file.set(number, value))
 }
 
 /// Replaces a block.
-fn replace<'a>(rt: &HostRuntime, file: &mut WorkingFile<'_>, mut words: Words<'a>) -> Edited<'a> {
-    let number = words.number()?;
-    write_block(rt, file, Some(number), words)
+fn replace<'a>(
+    rt: &HostRuntime,
+    file: &mut WorkingFile<'_>,
+    mut arguments: Arguments<'a>,
+) -> Edited<'a> {
+    let number = arguments.number()?;
+    write_block(rt, file, Some(number), arguments)
 }
 
 /// Loads a file.
-fn load<'a>(rt: &HostRuntime, file: &mut WorkingFile<'_>, words: Words<'a>) -> Edited<'a>
-    ensures { IfOk result (λ done. Loaded words.entry.rest.now (view file.old) done (view file.new)) }
+fn load<'a>(rt: &HostRuntime, file: &mut WorkingFile<'_>, arguments: Arguments<'a>) -> Edited<'a>
+    ensures { IfOk result (λ done. MakesLoad arguments.entry.rest.now (view file.old) done (view file.new)) }
 {
-    let bytes = only_bytes(rt, words)?;
+    let bytes = only_bytes(rt, arguments)?;
     Ok(file.load(bytes.as_slice()))
 }
 
 /// Takes out a block.
-fn remove<'a>(file: &mut WorkingFile<'_>, words: Words<'a>) -> Edited<'a>
-    ensures { IfOk result (λ done. Made (asked_remove words.entry.rest.now) (view file.old) done (view file.new)) }
+fn remove<'a>(file: &mut WorkingFile<'_>, arguments: Arguments<'a>) -> Edited<'a>
+    ensures { IfOk result (λ done. MakesCall (remove_call arguments.entry.rest.now) (view file.old) done (view file.new)) }
 {
-    Ok(file.remove(only_number(words)?))
+    Ok(file.remove(only_number(arguments)?))
 }
 
 /// Makes an edit.
@@ -128,19 +144,19 @@ pub(crate) fn edit<'a>(
     rt: &HostRuntime,
     file: &mut WorkingFile<'_>,
     call: Edit,
-    words: Words<'a>,
+    arguments: Arguments<'a>,
 ) -> Edited<'a>
-    ensures { IfOk result (λ done. EditMade call words.entry.rest.now (view file.old) done (view file.new)) }
+    ensures { IfOk result (λ done. MakesEdit call arguments.entry.rest.now (view file.old) done (view file.new)) }
 {
     match call {
-        Edit::Load => load(rt, file, words),
-        Edit::Set => set(file, words),
-        Edit::Store => store(rt, file, words),
-        Edit::Add => write_block(rt, file, None, words),
-        Edit::Carry => carry(rt, file, words),
-        Edit::Lengthen => lengthen(rt, file, words),
-        Edit::Replace => replace(rt, file, words),
-        Edit::Remove => remove(file, words),
-        Edit::Raise => Ok(file.raise(all_numbers(rt.alloc(), words)?.as_slice())),
+        Edit::Load => load(rt, file, arguments),
+        Edit::Set => set(file, arguments),
+        Edit::Store => store(rt, file, arguments),
+        Edit::Add => write_block(rt, file, None, arguments),
+        Edit::Carry => carry(rt, file, arguments),
+        Edit::Lengthen => lengthen(rt, file, arguments),
+        Edit::Replace => replace(rt, file, arguments),
+        Edit::Remove => remove(file, arguments),
+        Edit::Raise => Ok(file.raise(all_numbers(rt.alloc(), arguments)?.as_slice())),
     }
 }

@@ -10,9 +10,9 @@ pub enum Edit {
     Set,
     /// Store a row.
     Store,
-    /// Put a block of a kind behind the last one.
+    /// Put a block of a kind after the last one.
     Add,
-    /// Put a block of any key behind the last one.
+    /// Put a block of any key after the last one.
     Carry,
     /// Put more bytes at the end of a block's data.
     Lengthen,
@@ -67,11 +67,11 @@ pub enum Call {
 }
 
 impl Edit {
-    /// The edit that a word names. Its name for taking out a block is `drop`.
-    pub fn named(word: &str) -> Option<Edit>
-        ensures { NamesEdit word.now result }
+    /// The edit that an argument names. Its name for taking out a block is `drop`.
+    pub fn named(argument: &str) -> Option<Edit>
+        ensures { NamesEdit argument.now result }
     {
-        match word {
+        match argument {
             "load" => Some(Edit::Load),
             "set" => Some(Edit::Set),
             "store" => Some(Edit::Store),
@@ -87,11 +87,11 @@ impl Edit {
 }
 
 impl Question {
-    /// The question that a word names.
-    pub fn named(word: &str) -> Option<Question>
-        ensures { NamesQuestion word.now result }
+    /// The question that an argument names.
+    pub fn named(argument: &str) -> Option<Question>
+        ensures { NamesQuestion argument.now result }
     {
-        match word {
+        match argument {
             "version" => Some(Question::Version),
             "start" => Some(Question::Start),
             "field" => Some(Question::Field),
@@ -105,11 +105,11 @@ impl Question {
     }
 }
 
-/// The edit or the question that a word names.
-fn of_file(word: &str) -> Call
-    ensures { NamesOfFile word.now result }
+/// The edit or the question that an argument names.
+fn of_file(argument: &str) -> Call
+    ensures { NamesOfFile argument.now result }
 {
-    match (Edit::named(word), Question::named(word)) {
+    match (Edit::named(argument), Question::named(argument)) {
         (Some(edit), _) => Call::Change(edit),
         (None, Some(question)) => Call::Ask(question),
         (None, None) => Call::Other,
@@ -117,17 +117,17 @@ fn of_file(word: &str) -> Call
 }
 
 impl Call {
-    /// The call that a word names.
-    pub fn named(word: &str) -> Call
-        ensures { NamesCall word.now result }
+    /// The call that an argument names.
+    pub fn named(argument: &str) -> Call
+        ensures { NamesCall argument.now result }
     {
-        match word {
+        match argument {
             "judge" => Call::Judge,
             "make" => Call::Make,
             "begin" => Call::Begin,
             "save" => Call::Save,
             "bytes" => Call::Bytes,
-            _ => of_file(word),
+            _ => of_file(argument),
         }
     }
 }

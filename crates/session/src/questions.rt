@@ -1,7 +1,7 @@
-//! The questions about a working file, as the words of a line ask them.
+//! The questions about a working file, as the arguments of a line ask them.
 ghost use Rattle.std.specs.Prelude.{◌≡◌, ⊤, IfOk};
 ghost use Rattle.editor.specs.Calls.{view, file as file_of};
-ghost use Rattle.session.specs.Asked.{first, second, third, told_start, told_field, told_row, told_block, Told};
+ghost use Rattle.session.specs.LineCalls.{first_number, second_number, third_number, start_outcome, field_outcome, row_outcome, block_outcome, AnswersQuestion};
 ghost use Rattle.reader.specs.Answers.{version_answer};
 ghost use Rattle.calls.specs.Outcome.{number_or_refused};
 
@@ -12,7 +12,7 @@ use calls::{
 use editor::WorkingFile;
 use kinds::Kind;
 use reader::{Entry, RowAt};
-use script::{ArgumentError, FromWords, ToWords, Words};
+use script::{ArgumentError, Arguments, FromArguments, ToArguments};
 use std::alloc::{AllocError, Global};
 
 /// A block that is looked at as a kind.
@@ -30,10 +30,10 @@ impl<'c, 'f> ForKind for BlockToRead<'c, 'f> {
 
     fn of<K: Kind>(self) -> Result<Outcome, AllocError>
     where
-        K::Record: FromWords + ToWords,
+        K::Record: FromArguments + ToArguments,
     {
         match self.file.look::<K>(self.number) {
-            Ok(reading) => Ok(Outcome::Words(reading_text(self.heap, reading)?)),
+            Ok(reading) => Ok(Outcome::Items(reading_text(self.heap, reading)?)),
             Err(fault) => Ok(Outcome::Refused(fault)),
         }
     }
@@ -43,32 +43,32 @@ impl<'c, 'f> ForKind for BlockToRead<'c, 'f> {
 fn look<'a>(
     heap: Global,
     file: &WorkingFile<'_>,
-    mut words: Words<'a>,
+    mut arguments: Arguments<'a>,
 ) -> Result<Outcome, CallError<'a>> {
-    let number = words.number()?;
-    let word = words.next().ok_or(ArgumentError::Missing)?;
-    words.end()?;
+    let number = arguments.number()?;
+    let argument = arguments.next().ok_or(ArgumentError::Missing)?;
+    arguments.end()?;
     let block = BlockToRead { heap, file, number };
-    Ok(by_key(word, block).ok_or(ArgumentError::NoKind)??)
+    Ok(by_key(argument, block).ok_or(ArgumentError::NoKind)??)
 }
 
-/// The row that the next three words ask for: level, cell and row.
-fn next_row(words: &mut Words) -> Result<RowAt, ArgumentError>
-    ensures { IfOk result (λ at. (at.level ≡ first words.old.rest.now) × (at.cell ≡ second words.old.rest.now) × (at.row ≡ third words.old.rest.now)) }
+/// The row that the next three arguments ask for: level, cell and row.
+fn next_row(arguments: &mut Arguments) -> Result<RowAt, ArgumentError>
+    ensures { IfOk result (λ at. (at.level ≡ first_number arguments.old.rest.now) × (at.cell ≡ second_number arguments.old.rest.now) × (at.row ≡ third_number arguments.old.rest.now)) }
 {
     Ok(RowAt {
-        level: words.number()?,
-        cell: words.number()?,
-        row: words.number()?,
+        level: arguments.number()?,
+        cell: arguments.number()?,
+        row: arguments.number()?,
     })
 }
 
 /// Place and length of a row.
-fn row<'a>(file: &WorkingFile<'_>, mut words: Words<'a>) -> Result<Outcome, CallError<'a>>
-    ensures { IfOk result (λ told. told ≡ told_row (file_of (view file.now)) words.entry.rest.now) }
+fn row<'a>(file: &WorkingFile<'_>, mut arguments: Arguments<'a>) -> Result<Outcome, CallError<'a>>
+    ensures { IfOk result (λ told. told ≡ row_outcome (file_of (view file.now)) arguments.entry.rest.now) }
 {
-    let at = next_row(&mut words)?;
-    words.end()?;
+    let at = next_row(&mut arguments)?;
+    arguments.end()?;
     Ok(file.row(at).into())
 }
 
@@ -84,44 +84,44 @@ fn count_numbers(file: &WorkingFile<'_>, at: RowAt) -> usize {
 fn numbers<'a>(
     heap: Global,
     file: &WorkingFile<'_>,
-    mut words: Words<'a>,
+    mut arguments: Arguments<'a>,
 ) -> Result<Outcome, CallError<'a>> {
-    let at = next_row(&mut words)?;
-    let mut list = vec![in heap; 0u32; only_number(words)?]?;
+    let at = next_row(&mut arguments)?;
+    let mut list = vec![in heap; 0u32; only_number(arguments)?]?;
     if let Err(fault) = file.numbers(at, list.as_mut_slice()) {
         return Ok(Outcome::Refused(fault));
     }
     let filled = list.get(..count_numbers(file, at)).unwrap_or(&[]);
-    Ok(Outcome::Words(patterns_text(heap, filled)?))
+    Ok(Outcome::Items(patterns_text(heap, filled)?))
 }
 
 /// The blocks of the file, by way of a table of so many entries.
 fn table<'a>(
     heap: Global,
     file: &WorkingFile<'_>,
-    words: Words<'a>,
+    arguments: Arguments<'a>,
 ) -> Result<Outcome, CallError<'a>> {
     let none = Entry {
         key: 0,
         place: 0,
         size: 0,
     };
-    let mut entries = vec![in heap; none; only_number(words)?]?;
+    let mut entries = vec![in heap; none; only_number(arguments)?]?;
     match file.table(entries.as_mut_slice()) {
         Ok(count) => {
             let filled = entries.get(..count).unwrap_or(&[]);
-            Ok(Outcome::Words(entries_text(heap, filled)?))
+            Ok(Outcome::Items(entries_text(heap, filled)?))
         }
         Err(fault) => Ok(Outcome::Refused(fault)),
     }
 }
 
 /// The pattern of a field.
-fn field<'a>(file: &WorkingFile<'_>, mut words: Words<'a>) -> Result<Outcome, CallError<'a>>
-    ensures { IfOk result (λ told. told ≡ told_field (file_of (view file.now)) words.entry.rest.now) }
+fn field<'a>(file: &WorkingFile<'_>, mut arguments: Arguments<'a>) -> Result<Outcome, CallError<'a>>
+    ensures { IfOk result (λ told. told ≡ field_outcome (file_of (view file.now)) arguments.entry.rest.now) }
 {
-    let level = words.number()?;
-    let number = only_number(words)?;
+    let level = arguments.number()?;
+    let number = only_number(arguments)?;
     Ok(
         file.field(level, number)
             .map(|pattern| pattern as usize)
@@ -130,27 +130,27 @@ fn field<'a>(file: &WorkingFile<'_>, mut words: Words<'a>) -> Result<Outcome, Ca
 }
 
 /// A block, by its head.
-fn block<'a>(file: &WorkingFile<'_>, mut words: Words<'a>) -> Result<Outcome, CallError<'a>>
-    ensures { IfOk result (λ told. told ≡ told_block (file_of (view file.now)) words.entry.rest.now) }
+fn block<'a>(file: &WorkingFile<'_>, mut arguments: Arguments<'a>) -> Result<Outcome, CallError<'a>>
+    ensures { IfOk result (λ told. told ≡ block_outcome (file_of (view file.now)) arguments.entry.rest.now) }
 {
-    let level = words.number()?;
-    let number = only_number(words)?;
+    let level = arguments.number()?;
+    let number = only_number(arguments)?;
     Ok(file.block(level, number).into())
 }
 
 /// The file's version.
-fn version<'a>(file: &WorkingFile<'_>, words: Words<'a>) -> Result<Outcome, CallError<'a>>
+fn version<'a>(file: &WorkingFile<'_>, arguments: Arguments<'a>) -> Result<Outcome, CallError<'a>>
     ensures { IfOk result (λ told. told ≡ number_or_refused (version_answer (file_of (view file.now)))) }
 {
-    words.end()?;
+    arguments.end()?;
     Ok(file.version().map(|version| version as usize).into())
 }
 
 /// Where a reader of a level finds the data.
-fn start<'a>(file: &WorkingFile<'_>, words: Words<'a>) -> Result<Outcome, CallError<'a>>
-    ensures { IfOk result (λ told. told ≡ told_start (file_of (view file.now)) words.entry.rest.now) }
+fn start<'a>(file: &WorkingFile<'_>, arguments: Arguments<'a>) -> Result<Outcome, CallError<'a>>
+    ensures { IfOk result (λ told. told ≡ start_outcome (file_of (view file.now)) arguments.entry.rest.now) }
 {
-    Ok(file.start(only_number(words)?).into())
+    Ok(file.start(only_number(arguments)?).into())
 }
 
 /// Answers a question.
@@ -158,18 +158,18 @@ pub(crate) fn ask<'a>(
     heap: Global,
     file: &WorkingFile<'_>,
     question: Question,
-    words: Words<'a>,
+    arguments: Arguments<'a>,
 ) -> Result<Outcome, CallError<'a>>
-    ensures { IfOk result (Told question (file_of (view file.now)) words.entry.rest.now) }
+    ensures { IfOk result (AnswersQuestion question (file_of (view file.now)) arguments.entry.rest.now) }
 {
     match question {
-        Question::Version => version(file, words),
-        Question::Start => start(file, words),
-        Question::Field => field(file, words),
-        Question::Row => row(file, words),
-        Question::Numbers => numbers(heap, file, words),
-        Question::Block => block(file, words),
-        Question::Look => look(heap, file, words),
-        Question::Table => table(heap, file, words),
+        Question::Version => version(file, arguments),
+        Question::Start => start(file, arguments),
+        Question::Field => field(file, arguments),
+        Question::Row => row(file, arguments),
+        Question::Numbers => numbers(heap, file, arguments),
+        Question::Block => block(file, arguments),
+        Question::Look => look(heap, file, arguments),
+        Question::Table => table(heap, file, arguments),
     }
 }

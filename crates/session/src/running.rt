@@ -8,7 +8,7 @@ use calls::{
 use draft::Start;
 use faults::Fault;
 use format::judge;
-use script::{ArgumentError, Words};
+use script::{ArgumentError, Arguments};
 
 /// A draft that is open, in a buffer of its own.
 struct Opened {
@@ -33,30 +33,30 @@ fn held(size: usize) -> Outcome {
     }
 }
 
-/// Judges the bytes that the only word says.
-fn judge_bytes<'a>(rt: &HostRuntime, words: Words<'a>) -> Result<Outcome, CallError<'a>> {
-    Ok(judge(only_bytes(rt, words)?.as_slice()).into())
+/// Judges the bytes that the only argument says.
+fn judge_bytes<'a>(rt: &HostRuntime, arguments: Arguments<'a>) -> Result<Outcome, CallError<'a>> {
+    Ok(judge(only_bytes(rt, arguments)?.as_slice()).into())
 }
 
-/// A buffer of so many bytes, as the first word says, that begins with the bytes that the other says; zeros stand behind.
-fn make<'a>(rt: &HostRuntime, mut words: Words<'a>) -> Result<Working, CallError<'a>> {
-    let most = words.number()?;
-    let mut bytes = only_bytes(rt, words)?;
+/// A buffer of so many bytes, as the first argument says, that begins with the bytes that the other says; zeros stand after.
+fn make<'a>(rt: &HostRuntime, mut arguments: Arguments<'a>) -> Result<Working, CallError<'a>> {
+    let most = arguments.number()?;
+    let mut bytes = only_bytes(rt, arguments)?;
     let size = bytes.len();
     bytes.resize(most, 0)?;
     Ok(Working::of(Room { bytes, most }, size))
 }
 
-/// Writes the file under the name that the first word is, in place of another only where `--force` stands behind.
+/// NamesNumber the file under the name that the first argument is, in place of another only where `--force` stands after.
 fn save<'a>(rt: &HostRuntime, working: &Working, line: Line<'a>) -> Result<Outcome, CallError<'a>> {
-    let mut words = line.words;
-    let name = words.next().ok_or(ArgumentError::Missing)?;
-    let over = match words.next() {
+    let mut arguments = line.arguments;
+    let name = arguments.next().ok_or(ArgumentError::Missing)?;
+    let over = match arguments.next() {
         None => false,
         Some("--force") => true,
         Some(_) => return Err(CallError::Argument(ArgumentError::TooMany)),
     };
-    words.end()?;
+    arguments.end()?;
     let bytes = working.file();
     if bytes.is_empty() {
         return Err(CallError::NoFile(line.verb));
@@ -65,15 +65,15 @@ fn save<'a>(rt: &HostRuntime, working: &Working, line: Line<'a>) -> Result<Outco
     Ok(Outcome::Number(bytes.len()))
 }
 
-/// The bytes of the buffer that the words ask for: from which, and how many.
+/// The bytes of the buffer that the arguments ask for: from which, and how many.
 fn show_bytes<'a>(
     rt: &HostRuntime,
     working: &Working,
-    mut words: Words<'a>,
+    mut arguments: Arguments<'a>,
 ) -> Result<Outcome, CallError<'a>> {
-    let from = words.number()?;
-    let count = only_number(words)?;
-    Ok(Outcome::Words(bytes_text(rt.alloc(), working.bytes(from, count))?))
+    let from = arguments.number()?;
+    let count = only_number(arguments)?;
+    Ok(Outcome::Items(bytes_text(rt.alloc(), working.bytes(from, count))?))
 }
 
 /// Makes a call of the working file.
@@ -84,27 +84,27 @@ fn call_working<'a>(
     line: Line<'a>,
 ) -> Result<Outcome, CallError<'a>> {
     match call {
-        Call::Change(edit) => working.edit(rt, edit, line.words),
-        Call::Ask(question) => working.ask(rt.alloc(), question, line.words),
-        Call::Bytes => show_bytes(rt, working, line.words),
+        Call::Change(edit) => working.edit(rt, edit, line.arguments),
+        Call::Ask(question) => working.ask(rt.alloc(), question, line.arguments),
+        Call::Bytes => show_bytes(rt, working, line.arguments),
         Call::Save => save(rt, working, line),
         _ => Err(CallError::NoCall(line.verb)),
     }
 }
 
-/// Begins a draft, as the words say: the capacity of its buffer, what it begins with, and its values.
+/// Begins a draft, as the arguments say: the capacity of its buffer, what it begins with, and its values.
 fn begin<'a>(
     rt: &HostRuntime,
-    mut words: Words<'a>,
+    mut arguments: Arguments<'a>,
 ) -> Result<Result<Opened, Fault>, CallError<'a>> {
-    let capacity = words.number()?;
+    let capacity = arguments.number()?;
     let start = Start {
-        version: words.number()?,
-        kind: words.number()?,
-        bins: words.number()?,
-        ranges: words.number()?,
+        version: arguments.number()?,
+        kind: arguments.number()?,
+        bins: arguments.number()?,
+        ranges: arguments.number()?,
     };
-    let values = all_numbers(rt.alloc(), words)?;
+    let values = all_numbers(rt.alloc(), arguments)?;
     let mut room = Room::of_zeros(rt.alloc(), capacity, capacity)?;
     match Drafting::begin(&mut room, start, values.as_slice())? {
         Ok(drafting) => Ok(Ok(Opened { drafting, room })),
@@ -136,10 +136,10 @@ impl Session {
     }
 
     /// Makes the working buffer anew.
-    fn make<'a>(self, rt: &HostRuntime, words: Words<'a>) -> Called<'a> {
+    fn make<'a>(self, rt: &HostRuntime, arguments: Arguments<'a>) -> Called<'a> {
         // The old buffer goes before the new one is made, so that there are never two.
         let Session { working: _, draft } = self;
-        match make(rt, words) {
+        match make(rt, arguments) {
             Ok(working) => {
                 let outcome = held(working.size());
                 let working = Some(working);
@@ -153,10 +153,10 @@ impl Session {
     }
 
     /// Begins a draft; one that is open is given up before.
-    fn begin<'a>(self, rt: &HostRuntime, words: Words<'a>) -> Called<'a> {
+    fn begin<'a>(self, rt: &HostRuntime, arguments: Arguments<'a>) -> Called<'a> {
         let Session { working, draft } = self;
         give_up(draft);
-        match begin(rt, words) {
+        match begin(rt, arguments) {
             Ok(Ok(opened)) => {
                 let draft = Some(opened);
                 (Session { working, draft }, Ok(Outcome::Done))
@@ -218,9 +218,9 @@ impl Session {
         line: Line<'a>,
     ) -> (Session, Result<Outcome, CallError<'a>>) {
         match Call::named(line.verb) {
-            Call::Judge => (self, judge_bytes(rt, line.words)),
-            Call::Make => self.make(rt, line.words),
-            Call::Begin => self.begin(rt, line.words),
+            Call::Judge => (self, judge_bytes(rt, line.arguments)),
+            Call::Make => self.make(rt, line.arguments),
+            Call::Begin => self.begin(rt, line.arguments),
             Call::Other => self.step(rt, line),
             call => self.call_working(rt, call, line),
         }

@@ -2,7 +2,7 @@
 //! each call.
 ghost use Rattle.std.specs.Prelude.{◌≡◌, length, take, drop, IfOk};
 ghost use Rattle.editor.specs.Calls.{made, file};
-ghost use Rattle.session.specs.Asked.{Told};
+ghost use Rattle.session.specs.LineCalls.{AnswersQuestion};
 
 use crate::edits::edit;
 use crate::names::{Edit, Question};
@@ -10,7 +10,7 @@ use crate::questions::ask;
 use calls::{CallError, Outcome, Room};
 use editor::WorkingFile;
 use faults::Fault;
-use script::Words;
+use script::Arguments;
 use std::alloc::Global;
 
 /// A buffer that holds a file at its start, or none.
@@ -50,8 +50,8 @@ impl Working {
     pub fn bytes(&self, from: usize, count: usize) -> &[u8]
         ensures { result.now ≡ take count (drop from self.now.room.bytes.items) }
     {
-        let behind = self.room.bytes.get(from..).unwrap_or(&[]);
-        behind.get(..count).unwrap_or(behind)
+        let rest = self.room.bytes.get(from..).unwrap_or(&[]);
+        rest.get(..count).unwrap_or(rest)
     }
 
     /// Makes an edit, once.
@@ -59,10 +59,10 @@ impl Working {
         &mut self,
         rt: &HostRuntime,
         call: Edit,
-        words: Words<'a>,
+        arguments: Arguments<'a>,
     ) -> Result<Result<(), Fault>, CallError<'a>> {
         let mut file = WorkingFile::make(self.room.bytes.as_mut_slice(), self.size);
-        let answer = edit(rt, &mut file, call, words)?;
+        let answer = edit(rt, &mut file, call, arguments)?;
         self.size = file.bytes().len();
         Ok(answer)
     }
@@ -72,11 +72,11 @@ impl Working {
         &mut self,
         rt: &HostRuntime,
         call: Edit,
-        words: Words<'a>,
+        arguments: Arguments<'a>,
     ) -> Result<Outcome, CallError<'a>> {
-        let answer = self.edit_once(rt, call, words)?;
+        let answer = self.edit_once(rt, call, arguments)?;
         if self.room.grow(answer)? {
-            return Ok(self.edit_once(rt, call, words)?.into());
+            return Ok(self.edit_once(rt, call, arguments)?.into());
         }
         Ok(answer.into())
     }
@@ -86,11 +86,11 @@ impl Working {
         &mut self,
         heap: Global,
         question: Question,
-        words: Words<'a>,
+        arguments: Arguments<'a>,
     ) -> Result<Outcome, CallError<'a>>
-        ensures { IfOk result (Told question (file (made self.old.room.bytes.items self.old.size)) words.entry.rest.now) }
+        ensures { IfOk result (AnswersQuestion question (file (made self.old.room.bytes.items self.old.size)) arguments.entry.rest.now) }
     {
         let file = WorkingFile::make(self.room.bytes.as_mut_slice(), self.size);
-        ask(heap, &file, question, words)
+        ask(heap, &file, question, arguments)
     }
 }

@@ -1,4 +1,4 @@
-//! Records, as words that write their numbers.
+//! Records, as arguments that write their numbers.
 ghost use Rattle.std.specs.Prelude.{◌≡◌, ℕ, List, [], IfOk, Some, string_bytes};
 ghost use Rattle.kinds.specs.Packed.{Part};
 ghost use Rattle.records.specs.Fill.{fill_parts, fill_numbers};
@@ -8,7 +8,7 @@ ghost use Rattle.records.specs.Loca.{loca_parts, loca_numbers};
 ghost use Rattle.records.specs.Rcvi.{rcvi_parts, rcvi_numbers};
 ghost use Rattle.records.specs.Supi.{supi_parts, supi_numbers};
 ghost use Rattle.records.specs.Time.{time_parts, time_numbers};
-ghost use Rattle.script.specs.Written.{numeral_text, numerals_text, supi_numerals, words_for};
+ghost use Rattle.script.specs.Written.{numeral_text, numerals_text, supi_numerals, arguments_for};
 
 use records::{Fill, Fwin, Glrm, Loca, Rcvi, Supi, Time};
 use std::alloc::{AllocError, Global};
@@ -34,7 +34,7 @@ impl fmt::Display for Numeral {
     }
 }
 
-/// Numbers in decimal digits, each behind a space.
+/// Numbers in decimal digits, each after a space.
 fn numerals_text(heap: Global, numerals: &[Numeral]) -> Result<String, AllocError>
     ensures { IfOk result (λ s. string_bytes s ≡ numerals_text numerals.now) }
 {
@@ -46,23 +46,23 @@ fn numerals_text(heap: Global, numerals: &[Numeral]) -> Result<String, AllocErro
     Ok(text)
 }
 
-/// A record whose numbers can be written as words.
-pub trait ToWords: Copy {
+/// A record whose numbers can be written as arguments.
+pub trait ToArguments: Copy {
     ghost parts: { List Part };
 
     ghost numbers: { Self → List ℕ };
 
-    /// The numbers, in order, each in decimal digits behind a space.
-    fn to_words(self, heap: Global) -> Result<String, AllocError>
-        ensures { IfOk result (λ s. string_bytes s ≡ words_for parts (numbers self)) };
+    /// The numbers, in order, each in decimal digits after a space.
+    fn to_arguments(self, heap: Global) -> Result<String, AllocError>
+        ensures { IfOk result (λ s. string_bytes s ≡ arguments_for parts (numbers self)) };
 }
 
-impl ToWords for Time {
+impl ToArguments for Time {
     ghost parts = { time_parts };
 
     ghost numbers = { time_numbers };
 
-    fn to_words(self, heap: Global) -> Result<String, AllocError> {
+    fn to_arguments(self, heap: Global) -> Result<String, AllocError> {
         numerals_text(
             heap,
             &[
@@ -80,12 +80,12 @@ impl ToWords for Time {
     }
 }
 
-impl ToWords for Loca {
+impl ToArguments for Loca {
     ghost parts = { loca_parts };
 
     ghost numbers = { loca_numbers };
 
-    fn to_words(self, heap: Global) -> Result<String, AllocError> {
+    fn to_arguments(self, heap: Global) -> Result<String, AllocError> {
         numerals_text(
             heap,
             &[
@@ -97,12 +97,12 @@ impl ToWords for Loca {
     }
 }
 
-impl ToWords for Rcvi {
+impl ToArguments for Rcvi {
     ghost parts = { rcvi_parts };
 
     ghost numbers = { rcvi_numbers };
 
-    fn to_words(self, heap: Global) -> Result<String, AllocError> {
+    fn to_arguments(self, heap: Global) -> Result<String, AllocError> {
         numerals_text(
             heap,
             &[
@@ -114,12 +114,12 @@ impl ToWords for Rcvi {
     }
 }
 
-impl ToWords for Glrm {
+impl ToArguments for Glrm {
     ghost parts = { glrm_parts };
 
     ghost numbers = { glrm_numbers };
 
-    fn to_words(self, heap: Global) -> Result<String, AllocError> {
+    fn to_arguments(self, heap: Global) -> Result<String, AllocError> {
         numerals_text(
             heap,
             &[
@@ -155,23 +155,23 @@ fn supi_numerals(supi: Supi) -> [Numeral; 9]
     ]
 }
 
-impl ToWords for Supi {
+impl ToArguments for Supi {
     ghost parts = { supi_parts };
 
     ghost numbers = { supi_numbers };
 
     #[tactic(auto, using(crate::proofs::Signed::supi_written))]
-    fn to_words(self, heap: Global) -> Result<String, AllocError> {
+    fn to_arguments(self, heap: Global) -> Result<String, AllocError> {
         numerals_text(heap, &supi_numerals(self))
     }
 }
 
-impl ToWords for Fwin {
+impl ToArguments for Fwin {
     ghost parts = { fwin_parts };
 
     ghost numbers = { fwin_numbers };
 
-    fn to_words(self, heap: Global) -> Result<String, AllocError> {
+    fn to_arguments(self, heap: Global) -> Result<String, AllocError> {
         numerals_text(
             heap,
             &[
@@ -184,12 +184,12 @@ impl ToWords for Fwin {
     }
 }
 
-impl ToWords for Fill {
+impl ToArguments for Fill {
     ghost parts = { fill_parts };
 
     ghost numbers = { fill_numbers };
 
-    fn to_words(self, heap: Global) -> Result<String, AllocError> {
+    fn to_arguments(self, heap: Global) -> Result<String, AllocError> {
         numerals_text(
             heap,
             &[
@@ -203,12 +203,12 @@ impl ToWords for Fill {
 }
 
 /// What has no numbers, as the record of a text.
-impl ToWords for () {
+impl ToArguments for () {
     ghost parts = { [] };
 
     ghost numbers = { λ x. [] };
 
-    fn to_words(self, heap: Global) -> Result<String, AllocError> {
+    fn to_arguments(self, heap: Global) -> Result<String, AllocError> {
         Ok(String::new(heap))
     }
 }

@@ -2,9 +2,9 @@
 ghost use Rattle.std.specs.Prelude.{◌≡◌, IfOk, IfErr, IsNone, MatchOption};
 ghost use Rattle.calls.specs.declared.drafting.Drafting.TheVariants.{Closed};
 
+use crate::arguments::{MOST, split_force};
 use crate::command_error::{CommandError, number};
 use crate::judge::judge_bytes;
-use crate::words::{MOST, split_force};
 use calls::{
     Answer, CallError, Drafting, Line, Outcome, Room, ScriptError, check_free, write_whole,
 };
@@ -16,7 +16,7 @@ use std::io::Read;
 /// How many bytes the buffer of a draft has at first.
 const LEAST: usize = 256;
 
-/// What the words ask for.
+/// What the arguments ask for.
 #[derive(Clone, Copy)]
 struct Request<'a> {
     /// The name of the new file.
@@ -25,14 +25,14 @@ struct Request<'a> {
     over: bool,
     /// What the draft begins with.
     start: Start,
-    /// The words of the values for the other fields.
+    /// The arguments of the values for the other fields.
     values: &'a [String],
 }
 
-/// What the words OUT VERSION KIND BINS RANGES VALUE... [--force] ask for.
-fn request_of<'a>(words: &'a [String]) -> Result<Request<'a>, CommandError<'a>> {
-    let (words, over) = split_force(words);
-    match words {
+/// What the arguments OUT VERSION KIND BINS RANGES VALUE... [--force] ask for.
+fn request_of<'a>(arguments: &'a [String]) -> Result<Request<'a>, CommandError<'a>> {
+    let (arguments, over) = split_force(arguments);
+    match arguments {
         [name, version, kind, bins, ranges, values @ ..] => Ok(Request {
             name: name.as_str(),
             over,
@@ -48,12 +48,12 @@ fn request_of<'a>(words: &'a [String]) -> Result<Request<'a>, CommandError<'a>> 
     }
 }
 
-/// The numbers that the words write.
-fn numbers<'a>(heap: Global, words: &'a [String]) -> Result<Vec<u32>, CommandError<'a>> {
+/// The numbers that the arguments write.
+fn numbers<'a>(heap: Global, arguments: &'a [String]) -> Result<Vec<u32>, CommandError<'a>> {
     let mut values = Vec::new(heap);
-    for word in words {
+    for argument in arguments {
         values
-            .push(number(word.as_str())?)
+            .push(number(argument.as_str())?)
             .map_err(AllocError::from)?;
     }
     Ok(values)
@@ -154,7 +154,7 @@ fn finish<'s>(
     }
 }
 
-/// Makes the calls of a script one after the other, also behind a call that is refused, up to a line that has no call; the
+/// Makes the calls of a script one after the other, also after a call that is refused, up to a line that has no call; the
 /// length of the draft when it is closed, or the line that keeps it from being written.
 fn follow<'s>(
     rt: &HostRuntime,
@@ -213,9 +213,9 @@ fn write_draft<'a>(
     Ok(())
 }
 
-/// Does what the words OUT VERSION KIND BINS RANGES VALUE... [--force] ask.
-pub fn draft_words<'a>(rt: &HostRuntime, words: &'a [String]) -> Result<(), CommandError<'a>> {
-    let request = request_of(words)?;
+/// Does what the arguments OUT VERSION KIND BINS RANGES VALUE... [--force] ask.
+pub fn draft_verb<'a>(rt: &HostRuntime, arguments: &'a [String]) -> Result<(), CommandError<'a>> {
+    let request = request_of(arguments)?;
     let values = numbers(rt.alloc(), request.values)?;
     check_free(rt, request.name, request.over)?;
     let mut script = Vec::new(rt.alloc());

@@ -1,10 +1,10 @@
-//! The words of the command line.
-ghost use Rattle.kutsvame.specs.Verbs.{Names};
+//! The arguments of the command line.
+ghost use Rattle.kutsvame.specs.Verbs.{NamesVerb};
 
 /// What the program is asked to do.
 #[derive(Clone, Copy, PartialEq, Eq, Debug)]
 pub enum Verb {
-    /// Judge the files that the other words name.
+    /// Judge the files that the other arguments name.
     Judge,
     /// Show the header and the blocks of a file.
     Show,
@@ -23,13 +23,13 @@ pub enum Verb {
 }
 
 impl Verb {
-    // An Option and no `FromStr`: of a word that names no verb there is no more to say than that.
+    // An Option and no `FromStr`: of an argument that names no verb there is no more to say than that.
 
-    /// The verb that a word names.
-    pub fn named(word: &str) -> Option<Verb>
-        ensures { Names word.now result }
+    /// The verb that an argument names.
+    pub fn named(argument: &str) -> Option<Verb>
+        ensures { NamesVerb argument.now result }
     {
-        match word {
+        match argument {
             "judge" => Some(Verb::Judge),
             "show" => Some(Verb::Show),
             "row" => Some(Verb::Row),
@@ -49,10 +49,10 @@ pub const LEVEL: usize = 6;
 /// How many bytes the buffer may have at most in which a file is drafted or changed.
 pub const MOST: usize = 1073741824;
 
-/// The words before a last `--force`, and whether it is there.
-pub fn split_force(words: &[String]) -> (&[String], bool) {
-    match words.split_last() {
+/// The arguments before a last `--force`, and whether it is there.
+pub fn split_force(arguments: &[String]) -> (&[String], bool) {
+    match arguments.split_last() {
         Some((last, others)) if last.as_str() == "--force" => (others, true),
-        _ => (words, false),
+        _ => (arguments, false),
     }
 }

@@ -1,6 +1,6 @@
 //! The verb run: the calls of a script, which act on a working file and on a draft.
 use crate::command_error::CommandError;
-use crate::draft_words::print_outcome;
+use crate::draft_verb::print_outcome;
 use crate::progress::Progress;
 use calls::{CallError, Line, Outcome, ScriptError, read_file};
 use session::Session;
@@ -32,7 +32,7 @@ fn step<'s>(
     }
 }
 
-/// Makes the calls of a script one after the other, also behind a call that is refused, up to a line that is no call; that line, if
+/// Makes the calls of a script one after the other, also after a call that is refused, up to a line that is no call; that line, if
 /// there is one.
 fn follow<'s>(rt: &HostRuntime, script: &'s [u8]) -> Result<(), ScriptError<'s>> {
     let mut session = Session::start();
@@ -52,9 +52,9 @@ fn follow<'s>(rt: &HostRuntime, script: &'s [u8]) -> Result<(), ScriptError<'s>>
     Ok(())
 }
 
-/// Does what the word SCRIPT asks.
-pub fn run_words<'a>(rt: &HostRuntime, words: &'a [String]) -> Result<(), CommandError<'a>> {
-    let [name] = words else {
+/// Does what the argument SCRIPT asks.
+pub fn run_verb<'a>(rt: &HostRuntime, arguments: &'a [String]) -> Result<(), CommandError<'a>> {
+    let [name] = arguments else {
         return Err(CommandError::Misused("wrong count of words", "run"));
     };
     let script = read_file(rt, name.as_str())?;

@@ -2,16 +2,16 @@
 ghost use Rattle.std.specs.Prelude.{IfOk, string_bytes, ◌≡◌};
 ghost use Rattle.kutsvame.specs.Lines.{raised_text, added_text};
 
+use crate::arguments::{MOST, split_force};
 use crate::command_error::{CommandError, read_accepted};
 use crate::judge::judge_bytes;
-use crate::words::{MOST, split_force};
 use calls::{Outcome, Room, check_free, write_whole};
 use format::{Layout, judge};
-use script::Words;
+use script::Arguments;
 use session::{Edit, Working};
 use std::alloc::{AllocError, Global};
 
-/// What the words ask for.
+/// What the arguments ask for.
 #[derive(Clone, Copy)]
 struct Request<'a> {
     /// The name of the file that is read.
@@ -20,32 +20,32 @@ struct Request<'a> {
     to: &'a str,
     /// Whether it may take the place of another.
     over: bool,
-    /// The words of the edit.
-    words: &'a [String],
+    /// The arguments of the edit.
+    arguments: &'a [String],
 }
 
-/// What the words IN OUT WORD... [--force] ask for.
+/// What the arguments IN OUT WORD... [--force] ask for.
 fn request_of<'a>(
     verb: &'static str,
-    words: &'a [String],
+    arguments: &'a [String],
 ) -> Result<Request<'a>, CommandError<'a>> {
-    let (words, over) = split_force(words);
-    match words {
-        [from, to, words @ ..] => Ok(Request {
+    let (arguments, over) = split_force(arguments);
+    match arguments {
+        [from, to, arguments @ ..] => Ok(Request {
             from: from.as_str(),
             to: to.as_str(),
             over,
-            words,
+            arguments,
         }),
         _ => Err(CommandError::Misused("wrong count of words", verb)),
     }
 }
 
-/// The words as those of one line.
-fn line_of(heap: Global, words: &[String]) -> Result<String, AllocError> {
+/// The arguments as those of one line.
+fn line_of(heap: Global, arguments: &[String]) -> Result<String, AllocError> {
     let mut line = String::new(heap);
-    for word in words {
-        line.push_str(word.as_str())?;
+    for argument in arguments {
+        line.push_str(argument.as_str())?;
         line.push(' ')?;
     }
     Ok(line)
@@ -62,8 +62,8 @@ fn change<'a>(
     let (bytes, layout) = read_accepted(rt, request.from)?;
     let size = bytes.len();
     let mut working = Working::of(Room { bytes, most: MOST }, size);
-    let line = line_of(rt.alloc(), request.words)?;
-    match working.edit(rt, edit, Words::of(line.as_str())) {
+    let line = line_of(rt.alloc(), request.arguments)?;
+    match working.edit(rt, edit, Arguments::of(line.as_str())) {
         Ok(Outcome::Refused(fault)) => Err(CommandError::Refused(request.from, fault)),
         Ok(_) => Ok((working, layout)),
         Err(error) => {
@@ -112,9 +112,9 @@ fn added_line(
     format!(in heap; "{name}: {kind} added as block {number}, {size} bytes")
 }
 
-/// Does what the words IN OUT VALUE... [--force] ask.
-pub fn raise_words<'a>(rt: &HostRuntime, words: &'a [String]) -> Result<(), CommandError<'a>> {
-    let request = request_of("raise", words)?;
+/// Does what the arguments IN OUT VALUE... [--force] ask.
+pub fn raise_verb<'a>(rt: &HostRuntime, arguments: &'a [String]) -> Result<(), CommandError<'a>> {
+    let request = request_of("raise", arguments)?;
     let (working, layout) = change(rt, "raise", Edit::Raise, request)?;
     let file = working.file();
     let now = judge(file).map_err(|fault| CommandError::Refused(request.to, fault))?;
@@ -128,10 +128,10 @@ pub fn raise_words<'a>(rt: &HostRuntime, words: &'a [String]) -> Result<(), Comm
     write_changed(rt, request, file, done.as_str())
 }
 
-/// Does what the words IN OUT KIND NUMBER... [TEXT] [--force] ask.
-pub fn add_words<'a>(rt: &HostRuntime, words: &'a [String]) -> Result<(), CommandError<'a>> {
-    let request = request_of("add", words)?;
-    let Some(kind) = request.words.first() else {
+/// Does what the arguments IN OUT KIND NUMBER... [TEXT] [--force] ask.
+pub fn add_verb<'a>(rt: &HostRuntime, arguments: &'a [String]) -> Result<(), CommandError<'a>> {
+    let request = request_of("add", arguments)?;
+    let Some(kind) = request.arguments.first() else {
         return Err(CommandError::Misused("wrong count of words", "add"));
     };
     let (working, _) = change(rt, "add", Edit::Add, request)?;
