@@ -10,7 +10,7 @@ use crate::room::Room;
 use draft::{BlockStage, CellStage, Start};
 use faults::Fault;
 use kinds::Kind;
-use script::{ArgumentError, Arguments, FromArguments, ToArguments, key_of};
+use script::{ArgumentError, Arguments, Fields, key_of};
 use std::alloc::AllocError;
 
 /// The stage of a draft. It is no `Drop`, as the stages in it: whoever has it ends it, or gives it up.
@@ -42,7 +42,7 @@ impl<'c, 'a> ForKind for BlockToPut<'c, 'a> {
 
     fn of<K: Kind>(self) -> Result<Outcome, CallError<'a>>
     where
-        K::Record: FromArguments + ToArguments,
+        K::Record: Fields,
     {
         let BlockToPut {
             rt,

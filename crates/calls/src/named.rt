@@ -4,7 +4,7 @@ ghost use Rattle.calls.specs.Named.{GivesByKey};
 
 use kinds::Kind;
 use records::{Fill, Fwin, Glrm, Loca, Rcvi, Supi, Time};
-use script::{FromArguments, ToArguments};
+use script::Fields;
 use texts::{City, Sitd, Tool, Zone};
 
 /// What is to be done with a kind, whichever it is.
@@ -17,7 +17,7 @@ pub trait ForKind: Drop {
     /// Does it with a kind.
     fn of<K: Kind>(self) -> Self::Output
     where
-        K::Record: FromArguments + ToArguments,
+        K::Record: Fields,
         ensures { gives self K.kind.key result };
 }
 

@@ -1,6 +1,6 @@
 pub mod ArgumentError
 pub mod Numbers
 pub mod Records
-pub mod Written
+pub mod Fields
 pub mod Arguments
 pub mod Literal

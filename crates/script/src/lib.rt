@@ -3,14 +3,12 @@
 
 mod argument_error;
 mod arguments;
-mod from_arguments;
+mod fields;
 mod literal;
 mod numbers;
-mod to_arguments;
 
 pub use argument_error::ArgumentError;
 pub use arguments::Arguments;
-pub use from_arguments::FromArguments;
+pub use fields::{Field, Fields, Numeral, arguments_text};
 pub use literal::{Literal, hexadecimal, key_of};
 pub use numbers::Number;
-pub use to_arguments::ToArguments;

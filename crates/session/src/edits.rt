@@ -10,7 +10,7 @@ use calls::{
 use editor::WorkingFile;
 use faults::Fault;
 use kinds::Kind;
-use script::{ArgumentError, Arguments, FromArguments, ToArguments, key_of};
+use script::{ArgumentError, Arguments, Fields, key_of};
 
 /// What an edit answers, or why its line is not done.
 type Edited<'a> = Result<Result<(), Fault>, CallError<'a>>;
@@ -31,7 +31,7 @@ impl<'c, 'f, 'a> ForKind for BlockToWrite<'c, 'f, 'a> {
 
     fn of<K: Kind>(self) -> Edited<'a>
     where
-        K::Record: FromArguments + ToArguments,
+        K::Record: Fields,
     {
         let BlockToWrite {
             rt,

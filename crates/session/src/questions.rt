@@ -12,7 +12,7 @@ use calls::{
 use editor::WorkingFile;
 use kinds::Kind;
 use reader::{Entry, RowAt};
-use script::{ArgumentError, Arguments, FromArguments, ToArguments};
+use script::{ArgumentError, Arguments, Fields};
 use std::alloc::{AllocError, Global};
 
 /// A block that is looked at as a kind.
@@ -30,7 +30,7 @@ impl<'c, 'f> ForKind for BlockToRead<'c, 'f> {
 
     fn of<K: Kind>(self) -> Result<Outcome, AllocError>
     where
-        K::Record: FromArguments + ToArguments,
+        K::Record: Fields,
     {
         match self.file.look::<K>(self.number) {
             Ok(reading) => Ok(Outcome::Items(reading_text(self.heap, reading)?)),
