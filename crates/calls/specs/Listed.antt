@@ -1,13 +1,16 @@
--- What calls answer, as words, each after a space.
-use Rattle.std.specs.Prelude.{ℕ, ◌+◌, ◌-◌, ◌/◌, ◌%◌, cond, List, ◌++◌, codes, decimal, length, nat_lt}
+-- What calls answer, as items, each after a space.
+use Rattle.std.specs.Prelude.{ℕ, ◌+◌, ◌-◌, ◌/◌, ◌%◌, if◌then◌else◌, List, ◌++◌, codes, decimal, length, nat_lt}
 use Rattle.std.proofs.Math.Utf8.{encode}
 use Rattle.std.specs.List.{flat_map}
+use Rattle.kinds.specs.Packed.{Part}
 use Rattle.hex.specs.Hex.{encode_lower}
 use Rattle.reader.specs.declared.blocks.Entry.{Entry}
+use Rattle.script.specs.Fields.{arguments_for}
 
--- a number below 16 as a hexadecimal digit: 0 to 9, whose codes begin at 48, and a to f, whose codes begin at 97
+-- a number below 16 as a hexadecimal digit: 0 to 9, whose codes begin at 48, and a to f, whose
+-- codes begin at 97
 abbrev pub digit_of : ℕ → ℕ
-digit_of x = cond (nat_lt x 10) (48 + x) (97 + (x - 10))
+digit_of x = if nat_lt x 10 then 48 + x else 97 + (x - 10)
 
 -- a byte as two digits
 abbrev pub byte_text : ℕ → List ℕ
@@ -36,7 +39,8 @@ entries_text es = (codes " " ++ decimal (length es)) ++ flat_map entry_text es
 abbrev pub bytes_text : List ℕ → List ℕ
 bytes_text bs = codes " x" ++ encode_lower bs
 
--- what a kind reads in a block, after which stand the words of its numbers: used 4 text 112 0 1 2 2 4
-abbrev pub reading_text : ℕ → ℕ → ℕ → List ℕ → List ℕ
-reading_text used place length numbers =
-    codes " used " ++ (decimal used ++ (codes " text " ++ (decimal place ++ (codes " " ++ (decimal length ++ numbers)))))
+-- what a kind reads in a block, and its numbers as arguments: used 4 text 112 0 1 2 2 4
+abbrev pub reading_text : ℕ → ℕ → ℕ → List Part → List ℕ → List ℕ
+reading_text used place length parts numbers =
+    codes " used " ++ (decimal used ++ (codes " text " ++ (decimal place ++ (codes " " ++ (decimal length
+    ++ arguments_for parts numbers)))))

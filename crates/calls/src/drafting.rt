@@ -13,7 +13,8 @@ use kinds::Kind;
 use script::{ArgumentError, Arguments, Fields, key_of};
 use std::alloc::AllocError;
 
-/// The stage of a draft. It is no `Drop`, as the stages in it: whoever has it ends it, or gives it up.
+/// The stage of a draft. It is no `Drop`, as the stages in it: whoever has it ends it, or gives it
+/// up.
 pub enum Drafting {
     /// Blocks are put after the header.
     Blocks(BlockStage),
@@ -198,7 +199,8 @@ impl Drafting {
         }
     }
 
-    /// Makes the call of a line; the stage after it, and how the call came out, or why the line is not done.
+    /// Makes the call of a line; the stage after it, and how the call came out, or why the line is
+    /// not done.
     pub fn call<'a>(
         self,
         rt: &HostRuntime,

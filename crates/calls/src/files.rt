@@ -68,7 +68,8 @@ fn write_beside(rt: &HostRuntime, name: &str, bytes: &[u8], over: bool) -> io::R
     outcome
 }
 
-/// Writes the file of that name, whole or not at all; in place of another only where `over` says so.
+/// Writes the file of that name, whole or not at all; in place of another only where `over` says
+/// so.
 pub fn write_whole<'a>(
     rt: &HostRuntime,
     name: &'a str,

@@ -1,4 +1,4 @@
-//! The calls of a script, as its lines ask for them, and what is said of each: what the verbs `draft` and `run` share.
+//! The calls of a script's lines, and what is said of each: what `draft` and `run` share.
 #![tactic(auto)]
 
 mod bytes;

@@ -33,7 +33,8 @@ impl<'a> Line<'a> {
         })
     }
 
-    /// The same of a line that is given by its bytes, perhaps with a line's end; refuses bytes that are no text.
+    /// The same of a line that is given by its bytes, perhaps with a line's end; refuses bytes that
+    /// are no text.
     pub fn read(number: usize, bytes: &'a [u8]) -> Result<Option<Line<'a>>, CallError<'a>> {
         match from_utf8(bytes) {
             Ok(text) => Ok(Line::of(number, text.lines().next().unwrap_or(""))),

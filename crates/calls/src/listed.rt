@@ -1,7 +1,6 @@
-//! What calls answer, as words: each stands after a space.
+//! What calls answer, as items: each stands after a space.
 ghost use Rattle.std.specs.Prelude.{◌≡◌, ◌<◌, IfOk, Some, string_bytes};
 ghost use Rattle.calls.specs.Listed.{digit_of, byte_text, word_text, patterns_text, entries_text, bytes_text, reading_text};
-ghost use Rattle.script.specs.Fields.{arguments_for};
 
 use kinds::Reading;
 use reader::Entry;
@@ -50,7 +49,7 @@ impl fmt::Display for Word {
 
 /// What a kind reads in a block: the bytes used, place and length of the text, and the numbers.
 pub fn reading_text<R: Fields>(heap: Global, reading: Reading<R>) -> Result<String, AllocError>
-    ensures { IfOk result (λ s. string_bytes s ≡ reading_text reading.used reading.text reading.length (arguments_for R.parts (R.numbers reading.record))) }
+    ensures { IfOk result (λ s. string_bytes s ≡ reading_text reading.used reading.text reading.length R.parts (R.numbers reading.record)) }
 {
     let numbers = arguments_text(heap, reading.record)?;
     format!(in heap;

@@ -21,11 +21,11 @@ pub trait ForKind: Drop {
         ensures { gives self K.kind.key result };
 }
 
-/// Does it with the kind whose key an argument is; nothing where the argument is the key of no kind.
+/// Does it with the kind whose key an argument is; nothing where the argument is the key of no
+/// kind.
 pub fn by_key<C: ForKind>(argument: &str, call: C) -> Option<C::Output>
     ensures { GivesByKey (C.gives call) argument.now result }
 {
-    // A match and no table: each arm is a call at a type of its own.
     match argument {
         "TIME" => Some(call.of::<Time>()),
         "LOCA" => Some(call.of::<Loca>()),

@@ -21,10 +21,8 @@ impl Room {
         Ok(Room { bytes, most })
     }
 
-    // A bool: not to grow is no failure, and then the call's own refusal stands.
-
-    /// Makes the buffer longer, with zeros after, for a call that was refused for want of room; whether it is longer now, so
-    /// that the call may be made again.
+    /// Makes the buffer longer, with zeros after, for a call that was refused for want of room;
+    /// whether it is longer now, so that the call may be made again.
     pub fn grow(&mut self, outcome: Result<(), Fault>) -> Result<bool, AllocError>
         ensures grown { IfOk result (λ made. IsGrown self.old.most self.old.bytes.items outcome made self.new.bytes.items) }
         ensures most { self.new.most ≡ self.old.most }

@@ -23,8 +23,6 @@ pub enum Verb {
 }
 
 impl Verb {
-    // An Option and no `FromStr`: of an argument that names no verb there is no more to say than that.
-
     /// The verb that an argument names.
     pub fn named(argument: &str) -> Option<Verb>
         ensures { NamesVerb argument.now result }

@@ -51,7 +51,8 @@ fn line_of(heap: Global, arguments: &[String]) -> Result<String, AllocError> {
     Ok(line)
 }
 
-/// Reads the file and makes the edit, in a buffer that grows as it must; the file then, and the layout that it had.
+/// Reads the file and makes the edit, in a buffer that grows as it must; the file then, and the
+/// layout that it had.
 fn change<'a>(
     rt: &HostRuntime,
     verb: &'static str,

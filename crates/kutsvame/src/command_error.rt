@@ -45,8 +45,8 @@ impl From<AllocError> for CommandError<'_> {
 }
 
 impl CommandError<'_> {
-    /// Says on standard error why not all is done, unless a line of judge has said it; the status, or the error that ends
-    /// the program.
+    /// Says on standard error why not all is done, unless a line of judge has said it; the status,
+    /// or the error that ends the program.
     pub fn report(self, rt: &HostRuntime) -> io::Result<ExitCode> {
         match self {
             CommandError::Misused(why, argument) => {

@@ -111,7 +111,8 @@ fn print_call<'s>(
     Ok(())
 }
 
-/// Makes the call of a line, and prints how it came out; the stage of the draft then, and why the line is not done.
+/// Makes the call of a line, and prints how it came out; the stage of the draft then, and why the
+/// line is not done.
 fn step<'s>(
     rt: &HostRuntime,
     drafting: Drafting,
@@ -129,7 +130,8 @@ fn step<'s>(
     }
 }
 
-/// The length of a draft that is closed, if no call was refused; else the line that was refused, or the last, of that number.
+/// The length of a draft that is closed, if no call was refused; else the line that was refused, or
+/// the last, of that number.
 fn finish<'s>(
     drafting: Drafting,
     refused: Option<ScriptError<'s>>,
@@ -154,8 +156,9 @@ fn finish<'s>(
     }
 }
 
-/// Makes the calls of a script one after the other, also after a call that is refused, up to a line that has no call; the
-/// length of the draft when it is closed, or the line that keeps it from being written.
+/// Makes the calls of a script one after the other, also after a call that is refused, up to a line
+/// that has no call; the length of the draft when it is closed, or the line that keeps it from
+/// being written.
 fn follow<'s>(
     rt: &HostRuntime,
     mut drafting: Drafting,
@@ -185,8 +188,8 @@ fn follow<'s>(
     finish(drafting, refused, last)
 }
 
-/// Begins a draft and makes the calls of a script; the length of the draft when it is closed, or the line that keeps it from
-/// being written.
+/// Begins a draft and makes the calls of a script; the length of the draft when it is closed, or
+/// the line that keeps it from being written.
 fn draft_script<'s>(
     rt: &HostRuntime,
     room: &mut Room,

@@ -37,7 +37,8 @@ fn block_keys(
     }
 }
 
-/// The line for a file of that name: its layout and the keys of its blocks, or the rule that it breaks.
+/// The line for a file of that name: its layout and the keys of its blocks, or the rule that it
+/// breaks.
 fn verdict_line(
     heap: Global,
     name: &str,
@@ -51,8 +52,6 @@ fn verdict_line(
         Err(fault) => format!(in heap; "{name}: {fault}"),
     }
 }
-
-// Two functions answer a bool: a file that is refused stops nothing, and has its line; the walk over all files goes on.
 
 /// Judges the bytes of a file and prints the line for it; whether the file is accepted.
 pub fn judge_bytes(rt: &HostRuntime, name: &str, bytes: &[u8]) -> io::Result<bool> {
@@ -74,7 +73,8 @@ fn judge_file(rt: &HostRuntime, name: &str) -> io::Result<bool> {
     }
 }
 
-/// Prints a line for each file; fails, once all are judged, if one of them is refused or cannot be read.
+/// Prints a line for each file; fails, once all are judged, if one of them is refused or cannot be
+/// read.
 pub fn judge_files<'a>(rt: &HostRuntime, names: &'a [String]) -> Result<(), CommandError<'a>> {
     let mut outcome = Ok(());
     let mut progress = Progress::start(rt);

@@ -15,7 +15,8 @@ fn print_call<'s>(
     Ok(())
 }
 
-/// Makes the call of a line, and prints how it came out; the session then, and why the line is not done.
+/// Makes the call of a line, and prints how it came out; the session then, and why the line is not
+/// done.
 fn step<'s>(
     rt: &HostRuntime,
     session: Session,
@@ -32,8 +33,8 @@ fn step<'s>(
     }
 }
 
-/// Makes the calls of a script one after the other, also after a call that is refused, up to a line that is no call; that line, if
-/// there is one.
+/// Makes the calls of a script one after the other, also after a call that is refused, up to a line
+/// that is no call; that line, if there is one.
 fn follow<'s>(rt: &HostRuntime, script: &'s [u8]) -> Result<(), ScriptError<'s>> {
     let mut session = Session::start();
     let mut progress = Progress::start(rt);

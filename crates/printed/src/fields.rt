@@ -1,6 +1,6 @@
 //! The fields of a file's header: their names, and the line of each.
 ghost use Rattle.std.specs.Prelude.{◌≡◌};
-ghost use Rattle.printed.specs.Fields.{field_name, field_form, field_line};
+ghost use Rattle.printed.specs.Fields.{header_field_name, field_form, field_line};
 
 use crate::keys::{Key, SPACE, TILDE};
 use std::fmt;
@@ -51,10 +51,8 @@ const NAMES: [&str; 21] = [
 ];
 
 /// CODAR's name of a field; nothing is printed for a field that there is not.
-// An empty name and no Option: a line is made for any number, and its definition has no name there. (`get(number).copied()` was
-// tried for the index: its proof stops at the step limit.)
 fn field_name(number: usize) -> &'static str
-    ensures { result.now ≡ field_name number }
+    ensures { result.now ≡ header_field_name number }
 {
     if number < NAMES.len() {
         NAMES[number]

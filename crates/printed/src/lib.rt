@@ -1,4 +1,4 @@
-//! What is printed of a file, as values that say their own text; and the lists that the program makes to print.
+//! What is printed of a file, as values that say their own text, and as lists.
 #![tactic(auto)]
 
 mod fields;

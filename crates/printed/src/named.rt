@@ -1,4 +1,5 @@
-//! What the kinds read in a block's data, as it is printed: each number after its name, and the text in quotes.
+//! What the kinds read in a block's data, as it is printed: each number after its name, and the
+//! text in quotes.
 ghost use Rattle.std.specs.Prelude.{◌≡◌, IfOk, string_bytes};
 ghost use Rattle.printed.specs.Blocks.{quoted_text};
 ghost use Rattle.printed.specs.Named.{IsNumberText, IsFieldText, IsFieldList, text_after, IsRecordText};
@@ -59,7 +60,8 @@ fn field_list(heap: Global, fields: &[Field]) -> Result<String, AllocError>
     Ok(list)
 }
 
-/// The text of a record's block in quotes after what leads to it; nothing where the block has no text.
+/// The text of a record's block in quotes after what leads to it; nothing where the block has no
+/// text.
 fn text_after_fields<R: Fields>(heap: Global, text: &[u8]) -> Result<String, AllocError>
     ensures { IfOk result (λ s. string_bytes s ≡ text_after R.text_lead text.now) }
 {

@@ -37,18 +37,22 @@ unless_end t n within inside = (within, λ below. (inside below).1 below)
 before_space : (t : List ℕ) → IsCharBoundary t (position_or_len is_space t)
 before_space t =
     unless_end t (position_or_len is_space t) (prefix_len-le-length _ t)
-    (λ inside. let here = is_32 (get_or t (position_or_len is_space t) 0) (passes_at_first is_space t 0 inside) in IsCharBoundary-before_ascii t (position_or_len is_space t) inside (omega arith))
+    (λ inside. let here = is_32 (get_or t (position_or_len is_space t) 0) (passes_at_first is_space t 0 inside) in
+    IsCharBoundary-before_ascii t (position_or_len is_space t) inside (omega arith))
 
 -- after the next quotation mark
 after_quote : (c : ℕ) (t : List ℕ) → IsUtf8 (c ∷ t) → IsCharBoundary (c ∷ t) (min (position_or_len is_quote t + 2) (length t + 1))
 after_quote c t u =
     let n = position_or_len is_quote t in
     unless_end (c ∷ t) (min (n + 2) (length t + 1)) (omega arith)
-    (λ inside. let before : n < length t = omega arith in let here = is_34 (get_or t n 0) (passes_at_first is_quote t 0 before) in after_ascii (c ∷ t) (suc n) u (omega arith) (omega arith) (min (n + 2) (length t + 1)) (omega arith))
+    (λ inside. let before : n < length t = omega arith in
+    let here = is_34 (get_or t n 0) (passes_at_first is_quote t 0 before) in
+    after_ascii (c ∷ t) (suc n) u (omega arith) (omega arith) (min (n + 2) (length t + 1)) (omega arith))
 
 -- after the argument that a text begins with
 pub cut_after_argument : (t : List ℕ) → IsUtf8 t → IsCharBoundary t (argument_length t)
 cut_after_argument [] u = IsCharBoundary-start [] u
 cut_after_argument (c ∷ t) u =
-    elim (is_quote c) as (λ b. IsCharBoundary (c ∷ t) (cond b (min (position_or_len is_quote t + 2) (length t + 1)) (position_or_len is_space (c ∷ t))))
+    elim (is_quote c) as (λ b. IsCharBoundary (c ∷ t)
+    (cond b (min (position_or_len is_quote t + 2) (length t + 1)) (position_or_len is_space (c ∷ t))))
     [ true ↦ after_quote c t u | false ↦ before_space (c ∷ t) ]

@@ -1,5 +1,5 @@
 -- The numbers of a record, as the arguments of a line write them.
-use Rattle.std.specs.Prelude.{ℕ, List, [], ◌∷◌, ⊤}
+use Rattle.std.specs.Prelude.{◌≡◌, ℕ, List, [], ◌∷◌, ⊤}
 use Rattle.kinds.specs.Packed.{Part}
 use Rattle.script.specs.Numbers.{IsNumeralFor, number_for}
 use Rattle.script.specs.Arguments.{argument, after_argument}
@@ -18,3 +18,7 @@ numbers_for (p ∷ ps) t = number_for p (argument t) ∷ numbers_for ps (after_a
 abbrev pub after_numerals : List Part → List ℕ → List ℕ
 after_numerals [] t = t
 after_numerals (p ∷ ps) t = after_numerals ps (after_argument t)
+
+-- those numbers were read from the text, and that is left of it
+abbrev pub ReadsNumbers : List Part → List ℕ → List ℕ → List ℕ → Type 0
+ReadsNumbers ps t ns rest = HasNumeralsFor ps t × (ns ≡ numbers_for ps t) × (rest ≡ after_numerals ps t)

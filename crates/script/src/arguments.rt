@@ -1,8 +1,8 @@
 //! The arguments of a line, one after the other.
-ghost use Rattle.std.specs.Prelude.{◌≡◌, ◌==◌, ◌≤◌, ℕ, List, IfOk, OnErr, MatchResult, IsSome, length, option_copied, take, drop};
+ghost use Rattle.std.specs.Prelude.{◌≡◌, ◌==◌, ◌≤◌, ℕ, List, IfOk, OnErr, IsSome, length, option_copied, take, drop};
 ghost use Rattle.std.specs.Iterator.{at_most};
 ghost use Rattle.std.specs.List.{position_or_len, prefix_len};
-ghost use Rattle.script.specs.Numbers.{IsNumeralFor, number_for};
+ghost use Rattle.script.specs.Numbers.{IsNumeralFor, ReadsNumber};
 ghost use Rattle.script.specs.Arguments.{first_argument, argument, after_argument, unspaced, argument_length, is_space};
 
 use crate::argument_error::ArgumentError;
@@ -66,7 +66,7 @@ impl<'a> Arguments<'a> {
 
     /// The number that the next argument writes; refuses an argument that writes none.
     pub fn number<N: Number>(&mut self) -> Result<N, ArgumentError>
-        ensures ok { IfOk result (λ n. IsNumeralFor N.part (argument self.old.rest.now) × (N.number n ≡ number_for N.part (argument self.old.rest.now))) }
+        ensures ok { IfOk result (λ n. ReadsNumber N.part self.old.rest.now (N.number n)) }
         ensures err { OnErr result (IsNumeralFor N.part (argument self.old.rest.now) → ⊥) }
         ensures rest { self.new.rest.now ≡ after_argument self.old.rest.now }
     {
@@ -76,7 +76,8 @@ impl<'a> Arguments<'a> {
 
     /// Refuses a line that has arguments left.
     pub fn end(mut self) -> Result<(), ArgumentError>
-        ensures { MatchResult result (λ done. first_argument self.entry.rest.now ≡ None) (λ e. IsSome (first_argument self.entry.rest.now)) }
+        ensures ok { IfOk result (λ done. first_argument self.entry.rest.now ≡ None) }
+        ensures err { OnErr result (IsSome (first_argument self.entry.rest.now)) }
     {
         match self.next() {
             None => Ok(()),

@@ -1,4 +1,4 @@
-//! The fields of the seven records: each record lists their names and numbers, in order, beside the reading of them.
+//! The fields of the seven records: their names and numbers, and the records from arguments.
 ghost use Rattle.std.specs.Prelude.{◌≡◌, ℕ, List, [], codes, map, IfOk, OnErr, MatchOption, Some, None, Option, string_bytes};
 ghost use Rattle.std.specs.List.{flat_map};
 ghost use Rattle.kinds.specs.Packed.{Part};
@@ -10,7 +10,7 @@ ghost use Rattle.records.specs.Rcvi.{rcvi_parts, rcvi_numbers};
 ghost use Rattle.records.specs.Supi.{supi_parts, supi_numbers};
 ghost use Rattle.records.specs.Time.{time_parts, time_numbers};
 ghost use Rattle.script.specs.Fields.{field_name, HaveNumbers, numeral_text, field_argument, arguments_for, time_names, loca_names, rcvi_names, glrm_names, supi_names, fwin_names, fill_names};
-ghost use Rattle.script.specs.Records.{HasNumeralsFor, numbers_for, after_numerals};
+ghost use Rattle.script.specs.Records.{HasNumeralsFor, ReadsNumbers};
 
 use crate::argument_error::ArgumentError;
 use crate::arguments::Arguments;
@@ -60,12 +60,14 @@ pub trait Fields: Copy {
         ensures names { IfOk result (λ fs. map field_name fs.items ≡ names) }
         ensures numbers { IfOk result (λ fs. HaveNumbers parts (numbers self) fs.items) };
 
-    /// The record whose numbers, in order, are those that the next arguments write; refuses where one of them writes none that fits.
+    /// The record whose numbers, in order, are those that the next arguments write; refuses where
+    /// one of them writes none that fits.
     fn from_arguments(arguments: &mut Arguments) -> Result<Self, ArgumentError>
-        ensures ok { IfOk result (λ r. HasNumeralsFor parts arguments.old.rest.now × (numbers r ≡ numbers_for parts arguments.old.rest.now) × (arguments.new.rest.now ≡ after_numerals parts arguments.old.rest.now)) }
+        ensures ok { IfOk result (λ r. ReadsNumbers parts arguments.old.rest.now (numbers r) arguments.new.rest.now) }
         ensures err { OnErr result (HasNumeralsFor parts arguments.old.rest.now → ⊥) };
 
-    /// What is shown between the fields and the text of the record's block; nothing where the block has no text.
+    /// What is shown between the fields and the text of the record's block; nothing where the block
+    /// has no text.
     fn text_lead() -> Option<&'static str>
         ensures { MatchOption result (text_lead ≡ None) (λ lead. text_lead ≡ Some lead.now) };
 }

@@ -62,7 +62,8 @@ impl<'a> Literal<'a> {
     }
 }
 
-/// The bytes that hexadecimal digits say, two digits a byte; refuses an odd count of digits and any other character.
+/// The bytes that hexadecimal digits say, two digits a byte; refuses an odd count of digits and any
+/// other character.
 pub fn hexadecimal(heap: Global, digits: &str) -> Result<Vec<u8>, ArgumentError>
     ensures bytes { IfOk result (λ v. decode_of digits.now ≡ Ok v.items) }
     ensures odd { length digits.now % 2 ≡ 1 → result ≡ Err OddDigits }

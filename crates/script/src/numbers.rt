@@ -5,13 +5,13 @@ ghost use Rattle.kinds.specs.Packed.{Part, plain, signed, folded};
 ghost use Rattle.script.specs.Numbers.{NamesNumber};
 
 /// A number that an argument can write.
-// Each type has an impl of its own: the gate takes none that a macro of this repository writes.
 pub trait Number: Copy {
     ghost part: { Part };
 
     ghost number: { Self → ℕ };
 
-    /// The number that an argument writes in decimal digits; nothing where it writes none, or one that does not fit.
+    /// The number that an argument writes in decimal digits; nothing where it writes none, or one
+    /// that does not fit.
     fn named(argument: &str) -> Option<Self>
         ensures { NamesNumber number part argument.now result };
 }

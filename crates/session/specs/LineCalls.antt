@@ -8,6 +8,7 @@ use Rattle.faults.specs.declared.fault.Fault.{Fault}
 use Rattle.editor.specs.Calls.{Call, State, load, edit, answer, after}
 use Rattle.editor.specs.Edits.{set, store, carry, lengthen, remove}
 use Rattle.reader.specs.Answers.{version_answer, start_answer, field_answer, row_answer, block_answer}
+use Rattle.reader.specs.declared.rows.RowAt.{RowAt}
 use Rattle.session.specs.declared.names.Edit.{Edit}
 use Rattle.session.specs.declared.names.Edit.TheVariants.{Load, Set, Store, Add, Carry, Lengthen, Replace, Remove, Raise}
 use Rattle.session.specs.declared.names.Question.{Question}
@@ -25,6 +26,10 @@ second_number t = first_number (after_argument t)
 
 abbrev pub third_number : List ℕ → ℕ
 third_number t = second_number (after_argument t)
+
+-- level, cell and row, by the first three arguments
+abbrev pub IsRowAt : List ℕ → RowAt → Type 0
+IsRowAt t at = (at.level ≡ first_number t) × (at.cell ≡ second_number t) × (at.row ≡ third_number t)
 
 -- set FIELD VALUE, the value being one of 32 bits
 abbrev pub set_call : List ℕ → Call
@@ -44,18 +49,23 @@ MakesLoad t old done new = (bs : List ℕ) × (IsSaidBy (argument t) bs × Makes
 
 -- store CELL ROW BYTES
 abbrev pub MakesStore : List ℕ → State → Result (Unit {0}) Fault → State → Type 0
-MakesStore t old done new = (bs : List ℕ) × (IsSaidBy (argument (after_argument (after_argument t))) bs × MakesCall (edit (store (first_number t) (second_number t) bs)) old done new)
+MakesStore t old done new =
+    (bs : List ℕ) × (IsSaidBy (argument (after_argument (after_argument t))) bs
+    × MakesCall (edit (store (first_number t) (second_number t) bs)) old done new)
 
 -- lengthen BLOCK BYTES
 abbrev pub MakesLengthen : List ℕ → State → Result (Unit {0}) Fault → State → Type 0
-MakesLengthen t old done new = (bs : List ℕ) × (IsSaidBy (argument (after_argument t)) bs × MakesCall (edit (lengthen (first_number t) bs)) old done new)
+MakesLengthen t old done new =
+    (bs : List ℕ) × (IsSaidBy (argument (after_argument t)) bs × MakesCall (edit (lengthen (first_number t) bs)) old done new)
 
 -- carry KEY BYTES
 abbrev pub MakesCarry : List ℕ → State → Result (Unit {0}) Fault → State → Type 0
 MakesCarry t old done new =
-    (key : List ℕ) × ((body : List ℕ) × (IsSaidBy (argument t) key × IsSaidBy (argument (after_argument t)) body × MakesCall (edit (carry key body)) old done new))
+    (key : List ℕ) × ((body : List ℕ) × (IsSaidBy (argument t) key × IsSaidBy (argument (after_argument t)) body
+    × MakesCall (edit (carry key body)) old done new))
 
--- the edit of that name, as the arguments after it ask; of the blocks of a kind, and of the values of a raise, nothing is said here
+-- the edit of that name, as the arguments after it ask; of the blocks of a kind, and of the values
+-- of a raise, nothing is said here
 abbrev pub MakesEdit : Edit → List ℕ → State → Result (Unit {0}) Fault → State → Type 0
 MakesEdit Load t old done new = MakesLoad t old done new
 MakesEdit Set t old done new = MakesCall (set_call t) old done new
@@ -80,7 +90,8 @@ row_outcome file t = span_or_refused (row_answer file (first_number t) (second_n
 abbrev pub block_outcome : List ℕ → List ℕ → Outcome
 block_outcome file t = head_or_refused (block_answer file (first_number t) (second_number t))
 
--- what a question is told of a file by the arguments after it; of the answers that are lists nothing is said here
+-- what a question is told of a file by the arguments after it; of the answers that are lists
+-- nothing is said here
 abbrev pub AnswersQuestion : Question → List ℕ → List ℕ → Outcome → Type 0
 AnswersQuestion Version file t told = told ≡ number_or_refused (version_answer file)
 AnswersQuestion Start file t told = told ≡ start_outcome file t

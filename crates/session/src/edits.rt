@@ -15,7 +15,8 @@ use script::{ArgumentError, Arguments, Fields, key_of};
 /// What an edit answers, or why its line is not done.
 type Edited<'a> = Result<Result<(), Fault>, CallError<'a>>;
 
-/// A block of a kind whose numbers and text the arguments say: a new one, or one in the place of the block of that number.
+/// A block of a kind whose numbers and text the arguments say: a new one, or one in the place of
+/// the block of that number.
 #[derive(Drop)]
 struct BlockToWrite<'c, 'f, 'a> {
     rt: &'c HostRuntime,
@@ -48,7 +49,8 @@ impl<'c, 'f, 'a> ForKind for BlockToWrite<'c, 'f, 'a> {
     }
 }
 
-/// NamesNumber a block of the kind that the next argument names: a new one, or one in the place of the block of that number.
+/// Writes a block of the kind that the next argument names: a new one, or one in the place of
+/// the block of that number.
 fn write_block<'a>(
     rt: &HostRuntime,
     file: &mut WorkingFile<'_>,

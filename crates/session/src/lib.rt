@@ -1,4 +1,4 @@
-//! The calls of a run: edits of a working file and questions about it, drafts, and files saved, as the lines of a script ask for them.
+//! The session of a run: a working file and a draft, and the calls that a script makes of them.
 #![tactic(auto)]
 
 mod edits;

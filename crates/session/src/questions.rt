@@ -1,7 +1,7 @@
 //! The questions about a working file, as the arguments of a line ask them.
 ghost use Rattle.std.specs.Prelude.{◌≡◌, ⊤, IfOk};
 ghost use Rattle.editor.specs.Calls.{view, file as file_of};
-ghost use Rattle.session.specs.LineCalls.{first_number, second_number, third_number, start_outcome, field_outcome, row_outcome, block_outcome, AnswersQuestion};
+ghost use Rattle.session.specs.LineCalls.{IsRowAt, start_outcome, field_outcome, row_outcome, block_outcome, AnswersQuestion};
 ghost use Rattle.reader.specs.Answers.{version_answer};
 ghost use Rattle.calls.specs.Outcome.{number_or_refused};
 
@@ -54,7 +54,7 @@ fn look<'a>(
 
 /// The row that the next three arguments ask for: level, cell and row.
 fn next_row(arguments: &mut Arguments) -> Result<RowAt, ArgumentError>
-    ensures { IfOk result (λ at. (at.level ≡ first_number arguments.old.rest.now) × (at.cell ≡ second_number arguments.old.rest.now) × (at.row ≡ third_number arguments.old.rest.now)) }
+    ensures { IfOk result (IsRowAt arguments.old.rest.now) }
 {
     Ok(RowAt {
         level: arguments.number()?,

@@ -16,7 +16,8 @@ struct Opened {
     room: Room,
 }
 
-/// A working file and a draft, as far as they are made. It is no `Drop`, as a draft is none: whoever has it ends it.
+/// A working file and a draft, as far as they are made. It is no `Drop`, as a draft is none:
+/// whoever has it ends it.
 pub struct Session {
     working: Option<Working>,
     draft: Option<Opened>,
@@ -38,7 +39,8 @@ fn judge_bytes<'a>(rt: &HostRuntime, arguments: Arguments<'a>) -> Result<Outcome
     Ok(judge(only_bytes(rt, arguments)?.as_slice()).into())
 }
 
-/// A buffer of so many bytes, as the first argument says, that begins with the bytes that the other says; zeros stand after.
+/// A buffer of so many bytes, as the first argument says, that begins with the bytes that the other
+/// says; zeros stand after.
 fn make<'a>(rt: &HostRuntime, mut arguments: Arguments<'a>) -> Result<Working, CallError<'a>> {
     let most = arguments.number()?;
     let mut bytes = only_bytes(rt, arguments)?;
@@ -47,7 +49,8 @@ fn make<'a>(rt: &HostRuntime, mut arguments: Arguments<'a>) -> Result<Working, C
     Ok(Working::of(Room { bytes, most }, size))
 }
 
-/// NamesNumber the file under the name that the first argument is, in place of another only where `--force` stands after.
+/// Writes the file under the name that the first argument is, in place of another only where
+/// `--force` stands after.
 fn save<'a>(rt: &HostRuntime, working: &Working, line: Line<'a>) -> Result<Outcome, CallError<'a>> {
     let mut arguments = line.arguments;
     let name = arguments.next().ok_or(ArgumentError::Missing)?;
@@ -92,7 +95,8 @@ fn call_working<'a>(
     }
 }
 
-/// Begins a draft, as the arguments say: the capacity of its buffer, what it begins with, and its values.
+/// Begins a draft, as the arguments say: the capacity of its buffer, what it begins with, and its
+/// values.
 fn begin<'a>(
     rt: &HostRuntime,
     mut arguments: Arguments<'a>,
@@ -172,7 +176,8 @@ impl Session {
         }
     }
 
-    /// Makes a call of the draft; where it closes the draft, the file is the working file from there on.
+    /// Makes a call of the draft; where it closes the draft, the file is the working file from
+    /// there on.
     fn step<'a>(self, rt: &HostRuntime, line: Line<'a>) -> Called<'a> {
         let Session { working, draft } = self;
         let (drafting, mut room) = match draft {

@@ -1,5 +1,4 @@
-//! The working file of a run: a buffer of its own, and how many bytes of it are a file. A working file of the library is made over it for
-//! each call.
+//! The working file of a run, in a buffer of its own, over which each call makes one anew.
 ghost use Rattle.std.specs.Prelude.{◌≡◌, length, take, drop, IfOk};
 ghost use Rattle.editor.specs.Calls.{made, file};
 ghost use Rattle.session.specs.LineCalls.{AnswersQuestion};
