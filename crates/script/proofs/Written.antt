@@ -1,5 +1,5 @@
 -- The numbers of a record's fields, written as its parts ask.
-use Rattle.std.proofs.Common.{◌≡◌, ℕ, ℤ, pos, negsuc, List, [], ◌∷◌, ◌++◌, ◌∙◌, codes, decimal, sym, ap, refl, arith}
+use Rattle.std.proofs.Common.{◌≡◌, ℕ, ℤ, pos, negsuc, List, [], ◌∷◌, ◌∙◌, decimal, sym, ap, refl, arith}
 use Rattle.std.proofs.lemmas.Grind.{common_steps}
 use Rattle.std.specs.List.{flat_map}
 use Rattle.buffers.specs.Words.{Width, one, two, four, eight}

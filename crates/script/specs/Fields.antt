@@ -1,6 +1,5 @@
 -- The fields of a record: their names, and their numbers as arguments write them.
 use Rattle.std.specs.Prelude.{◌≡◌, ℕ, suc, ◌/◌, ◌%◌, ◌==◌, if◌then◌else◌, ℤ, pos, negsuc, List, [], ◌∷◌, ◌++◌, codes, decimal, ⊤}
-use Rattle.std.specs.List.{flat_map}
 use Rattle.buffers.specs.Words.{Width, one, two, four, eight}
 use Rattle.kinds.specs.Packed.{Part, plain, signed, folded}
 use Rattle.script.specs.declared.fields.Field.{Field}

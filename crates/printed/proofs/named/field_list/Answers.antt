@@ -1,4 +1,4 @@
-use Rattle.std.proofs.Common.{◌≡◌, ℕ, List, ◌++◌, codes, string_bytes, rules}
+use Rattle.std.proofs.Common.{◌++◌, codes, string_bytes, rules}
 use Rattle.std.proofs.lemmas.List.{append_assoc, take_all}
 use Rattle.printed.proofs.MoreFields.{one_more, whole_list}
 use Rattle.printed.proofs.named.field_list.Goals as goal
