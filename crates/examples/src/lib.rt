@@ -62,6 +62,8 @@ pub fn example_with_section() -> [u8; 160]
 }
 
 #[cfg(test)]
+mod buffer_tests;
+#[cfg(test)]
 mod draft_tests;
 #[cfg(test)]
 mod edit_tests;
@@ -69,6 +71,8 @@ mod edit_tests;
 mod editor_tests;
 #[cfg(test)]
 mod files;
+#[cfg(test)]
+mod judge_tests;
 #[cfg(test)]
 mod kind_tests;
 #[cfg(test)]
@@ -79,5 +83,3 @@ mod reader_tests;
 mod refusals;
 #[cfg(test)]
 mod runs;
-#[cfg(test)]
-mod tests;

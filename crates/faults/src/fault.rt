@@ -3,6 +3,7 @@ ghost use Rattle.std.specs.Prelude.{◌≡◌, Some};
 ghost use Rattle.faults.specs.Faults.{fault, in_block, fault_text};
 
 use crate::refusal::{Layer, Refusal};
+use std::error::Error;
 use std::fmt;
 
 /// Why a call refused, and where.
@@ -60,3 +61,5 @@ impl fmt::Display for Fault {
         Ok(())
     }
 }
+
+impl Error for Fault {}

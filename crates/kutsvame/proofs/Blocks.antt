@@ -20,7 +20,8 @@ held_layout b l is = ap (λ (r : Result Layout Fault). or_no_file (accepted r)) 
 filled_whole : {X : Type 0} (new old : List X) → length old ≤ length new → filled new old ≡ new
 filled_whole new old short = grind (arith, common_steps)
 
--- a table of as many places as an accepted file has blocks has an entry for each of them, and no more
+-- a table of as many places as an accepted file has blocks has an entry for each of them, and no
+-- more
 pub whole_table : (b : List ℕ) (l : Layout) → judged b ≡ Ok l → table_list b (replicate l.blocks no_entry) ≡ entries b l.blocks
 whole_table b l is =
     let places = length-replicate l.blocks no_entry in

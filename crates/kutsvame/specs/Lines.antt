@@ -7,7 +7,8 @@ use Rattle.format.specs.Shown.{layout_text}
 use Rattle.printed.specs.Keys.{keys_text}
 use Rattle.reader.specs.Answers.{entries}
 
--- the keys of an accepted file's blocks, whose bytes from 33 to 126 are shown as themselves; nothing of a file that is refused
+-- the keys of an accepted file's blocks, whose bytes from 33 to 126 are shown as themselves;
+-- nothing of a file that is refused
 abbrev pub keys_of : List ℕ → Result Layout Fault → List ℕ
 keys_of b (Ok layout) = keys_text 33 126 (entries b layout.blocks)
 keys_of b (Err fault) = []

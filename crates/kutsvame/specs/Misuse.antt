@@ -1,13 +1,13 @@
--- What is said of a word that writes no number.
+-- What is said of an argument that writes no number.
 use Rattle.std.specs.Prelude.{◌≡◌, ℕ, List, codes}
-use Rattle.kutsvame.specs.declared.failure.Failure.{Failure}
-use Rattle.kutsvame.specs.declared.failure.Failure.TheVariants.{Misused, Unread, Refused, Unwritten, Told, Io}
+use Rattle.kutsvame.specs.declared.command_error.CommandError.{CommandError}
+use Rattle.kutsvame.specs.declared.command_error.CommandError.TheVariants.{Misused, Read, Refused, Write, Reported, Io}
 
--- the failure names that word, and says that it is no decimal number
-abbrev pub NoNumber : List ℕ → Failure → Type 0
-NoNumber word (Misused why named) = (why.now ≡ codes "no decimal number") × (named.now ≡ word)
-NoNumber word (Unread file) = ⊥
-NoNumber word (Refused name fault) = ⊥
-NoNumber word (Unwritten file) = ⊥
-NoNumber word Told = ⊥
-NoNumber word (Io error) = ⊥
+-- the failure names that argument, and says that it is no decimal number
+abbrev pub SaysNoNumber : List ℕ → CommandError → Type 0
+SaysNoNumber argument (Misused why named) = (why.now ≡ codes "no decimal number") × (named.now ≡ argument)
+SaysNoNumber argument (Read file) = ⊥
+SaysNoNumber argument (Refused name fault) = ⊥
+SaysNoNumber argument (Write file) = ⊥
+SaysNoNumber argument Reported = ⊥
+SaysNoNumber argument (Io error) = ⊥

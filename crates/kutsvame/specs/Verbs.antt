@@ -1,19 +1,19 @@
--- Which word names which verb.
+-- Which argument names which verb.
 use Rattle.std.specs.Prelude.{◌≡◌, ℕ, ◌⊎◌, List, Some, None, codes, Option, ◌≢◌}
-use Rattle.kutsvame.specs.declared.words.Verb.{Verb}
-use Rattle.kutsvame.specs.declared.words.Verb.TheVariants.{Judge, Show, Row, Draft, Run, Raise, Add, Help}
+use Rattle.kutsvame.specs.declared.arguments.Verb.{Verb}
+use Rattle.kutsvame.specs.declared.arguments.Verb.TheVariants.{Judge, Show, Row, Draft, Run, Raise, Add, Help}
 
--- the words that name a verb; any other word names none
-abbrev pub Names : List ℕ → Option Verb → Type 0
-Names word (Some Judge) = word ≡ codes "judge"
-Names word (Some Show) = word ≡ codes "show"
-Names word (Some Row) = word ≡ codes "row"
-Names word (Some Draft) = word ≡ codes "draft"
-Names word (Some Run) = word ≡ codes "run"
-Names word (Some Raise) = word ≡ codes "raise"
-Names word (Some Add) = word ≡ codes "add"
-Names word (Some Help) = (word ≡ codes "help") ⊎ ((word ≡ codes "--help") ⊎ (word ≡ codes "-h"))
-Names word None =
-    (word ≢ codes "judge") × (word ≢ codes "show") × (word ≢ codes "row") × (word ≢ codes "draft")
-    × (word ≢ codes "run") × (word ≢ codes "raise") × (word ≢ codes "add")
-    × (word ≢ codes "help") × (word ≢ codes "--help") × (word ≢ codes "-h")
+-- the arguments that name a verb; any other argument names none
+abbrev pub NamesVerb : List ℕ → Option Verb → Type 0
+NamesVerb argument (Some Judge) = argument ≡ codes "judge"
+NamesVerb argument (Some Show) = argument ≡ codes "show"
+NamesVerb argument (Some Row) = argument ≡ codes "row"
+NamesVerb argument (Some Draft) = argument ≡ codes "draft"
+NamesVerb argument (Some Run) = argument ≡ codes "run"
+NamesVerb argument (Some Raise) = argument ≡ codes "raise"
+NamesVerb argument (Some Add) = argument ≡ codes "add"
+NamesVerb argument (Some Help) = (argument ≡ codes "help") ⊎ ((argument ≡ codes "--help") ⊎ (argument ≡ codes "-h"))
+NamesVerb argument None =
+    (argument ≢ codes "judge") × (argument ≢ codes "show") × (argument ≢ codes "row") × (argument ≢ codes "draft")
+    × (argument ≢ codes "run") × (argument ≢ codes "raise") × (argument ≢ codes "add")
+    × (argument ≢ codes "help") × (argument ≢ codes "--help") × (argument ≢ codes "-h")

@@ -1,12 +1,15 @@
 //! The blocks of a file, as they are printed.
+ghost use Rattle.std.specs.Prelude.{⊤};
+
+use calls::{ForKind, by_key};
 use faults::Fault;
 use format::Layout;
 use kinds::{Kind, Reading};
-use printed::{Head, Named, Refused, block_table, quoted};
-use reader::JudgedFile;
-use records::{Fill, Fwin, Glrm, Loca, Rcvi, Supi, Time};
-use std::{fmt, io};
-use texts::{City, Sitd, Tool, Zone};
+use printed::{Head, Refused, block_table, record_text};
+use reader::{Entry, JudgedFile};
+use script::Fields;
+use std::io;
+use std::str::from_utf8;
 
 /// What a kind reads in a block, and its text.
 fn read_block<'a, K: Kind>(
@@ -19,16 +22,17 @@ fn read_block<'a, K: Kind>(
 /// Prints the line of a block that is read as a kind.
 fn show_kind<K: Kind>(rt: &HostRuntime, file: &JudgedFile, head: Head) -> io::Result<()>
 where
-    Named<K::Record>: fmt::Display,
+    K::Record: Fields,
 {
     match read_block::<K>(file, head.0) {
         Ok((reading, text)) => {
-            let named = Named(reading.record, quoted(rt.alloc(), text)?);
+            let record = record_text(rt.alloc(), reading.record, text)?;
+            let record = record.as_str();
             let behind = head.1.size.saturating_sub(reading.used);
             if behind > 0 {
-                println!(rt; "{head}: {named}; bytes behind {behind}")
+                println!(rt; "{head}: {record}; bytes behind {behind}")
             } else {
-                println!(rt; "{head}: {named}")
+                println!(rt; "{head}: {record}")
             }
         }
         Err(fault) => {
@@ -38,22 +42,41 @@ where
     }
 }
 
+/// A block that is shown as a kind.
+#[derive(Drop)]
+struct BlockToShow<'c, 'f> {
+    rt: &'c HostRuntime,
+    file: &'c JudgedFile<'f>,
+    head: Head,
+}
+
+impl<'c, 'f> ForKind for BlockToShow<'c, 'f> {
+    type Output = io::Result<()>;
+
+    ghost gives = { λ call key outcome. ⊤ };
+
+    fn of<K: Kind>(self) -> io::Result<()>
+    where
+        K::Record: Fields,
+    {
+        show_kind::<K>(self.rt, self.file, self.head)
+    }
+}
+
 /// Prints the line of a block, which is read as the kind that its key names.
-fn show_block(rt: &HostRuntime, file: &JudgedFile, head: Head) -> io::Result<()> {
-    // A match and no table: each arm is a call at a type of its own, and a table would hold the same eleven lines as pointers.
-    match &head.1.key.to_be_bytes() {
-        b"TIME" => show_kind::<Time>(rt, file, head),
-        b"LOCA" => show_kind::<Loca>(rt, file, head),
-        b"RCVI" => show_kind::<Rcvi>(rt, file, head),
-        b"GLRM" => show_kind::<Glrm>(rt, file, head),
-        b"SUPI" => show_kind::<Supi>(rt, file, head),
-        b"FWIN" => show_kind::<Fwin>(rt, file, head),
-        b"FILL" => show_kind::<Fill>(rt, file, head),
-        b"ZONE" => show_kind::<Zone>(rt, file, head),
-        b"CITY" => show_kind::<City>(rt, file, head),
-        b"TOOL" => show_kind::<Tool>(rt, file, head),
-        b"SITD" => show_kind::<Sitd>(rt, file, head),
-        _ => println!(rt; "{head}: unknown kind"),
+fn show_block(rt: &HostRuntime, file: &JudgedFile, number: usize, entry: Entry) -> io::Result<()> {
+    let key = entry.key.to_be_bytes();
+    let head = Head(number, entry);
+    let shown = match from_utf8(&key) {
+        Ok(key) => by_key(key, BlockToShow { rt, file, head }),
+        Err(_) => None,
+    };
+    match shown {
+        Some(outcome) => outcome,
+        None => {
+            let head = Head(number, entry);
+            println!(rt; "{head}: unknown kind")
+        }
     }
 }
 
@@ -72,7 +95,7 @@ pub fn show_blocks(
     }
     let table = block_table(rt.alloc(), file, layout.blocks)?;
     for (number, entry) in (1..).zip(table.iter()) {
-        show_block(rt, file, Head(number, *entry))?;
+        show_block(rt, file, number, *entry)?;
     }
     Ok(())
 }

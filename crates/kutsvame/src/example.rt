@@ -1,8 +1,8 @@
-//! What the program does with no words: the built-in example file is judged, drafted anew, and amended as a working file.
+//! The built-in example file, judged, drafted anew, and amended as a working file.
+use crate::arguments::LEVEL;
 use crate::blocks_shown::show_blocks;
 use crate::calls_shown::Outcome;
 use crate::judge::judge_bytes;
-use crate::words::LEVEL;
 use draft::{Drafted, Parts, Start, draft_file};
 use editor::{Amended, Amendment, amend};
 use examples::{example_file, example_with_extent, example_with_section};
@@ -112,7 +112,8 @@ fn amend_again(buffer: &mut [u8], size: usize) -> Amended {
     amend::<Zone, Fill>(buffer, size, &by, (), fill(16))
 }
 
-/// The numbers of a FILL block: range cells doubled by the linear method, Doppler bins multiplied by padding.
+/// The numbers of a FILL block: range cells doubled by the linear method, Doppler bins multiplied
+/// by padding.
 fn fill(doppler_multiple: u8) -> Fill {
     Fill {
         range_method: 1,

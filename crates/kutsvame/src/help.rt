@@ -1,5 +1,5 @@
 //! The help text, in parts.
-use crate::words::Verb;
+use crate::arguments::Verb;
 use std::alloc::{AllocError, Global};
 
 const USAGE: &str = "\

@@ -3,13 +3,13 @@ ghost use Rattle.std.specs.Prelude.{◌≡◌, IfOk, string_bytes};
 ghost use Rattle.format.specs.Judging.{judged};
 ghost use Rattle.kutsvame.specs.Lines.{keys_of, verdict_text};
 
-use crate::failure::Failure;
+use crate::command_error::CommandError;
 use crate::progress::Progress;
+use calls::read_file;
 use faults::Fault;
 use format::{Layout, judge};
 use printed::{block_table, key_list};
 use reader::JudgedFile;
-use session::read_file;
 use std::alloc::{AllocError, Global};
 use std::io;
 
@@ -37,7 +37,8 @@ fn block_keys(
     }
 }
 
-/// The line for a file of that name: its layout and the keys of its blocks, or the rule that it breaks.
+/// The line for a file of that name: its layout and the keys of its blocks, or the rule that it
+/// breaks.
 fn verdict_line(
     heap: Global,
     name: &str,
@@ -52,8 +53,6 @@ fn verdict_line(
     }
 }
 
-// Two functions answer a bool: a file that is refused stops nothing, and has its line; the walk over all files goes on.
-
 /// Judges the bytes of a file and prints the line for it; whether the file is accepted.
 pub fn judge_bytes(rt: &HostRuntime, name: &str, bytes: &[u8]) -> io::Result<bool> {
     let heap = rt.alloc();
@@ -67,15 +66,16 @@ pub fn judge_bytes(rt: &HostRuntime, name: &str, bytes: &[u8]) -> io::Result<boo
 fn judge_file(rt: &HostRuntime, name: &str) -> io::Result<bool> {
     match read_file(rt, name) {
         Ok(bytes) => judge_bytes(rt, name, bytes.as_slice()),
-        Err(unread) => {
-            rt.println(unread)?;
+        Err(error) => {
+            rt.println(error)?;
             Ok(false)
         }
     }
 }
 
-/// Prints a line for each file; fails, once all are judged, if one of them is refused or cannot be read.
-pub fn judge_files<'a>(rt: &HostRuntime, names: &'a [String]) -> Result<(), Failure<'a>> {
+/// Prints a line for each file; fails, once all are judged, if one of them is refused or cannot be
+/// read.
+pub fn judge_files<'a>(rt: &HostRuntime, names: &'a [String]) -> Result<(), CommandError<'a>> {
     let mut outcome = Ok(());
     let mut progress = Progress::start(rt);
     for name in names {
@@ -83,7 +83,7 @@ pub fn judge_files<'a>(rt: &HostRuntime, names: &'a [String]) -> Result<(), Fail
             let _ = eprintln!(rt; "kutsvame: {name}");
         }
         if !judge_file(rt, name.as_str())? {
-            outcome = Err(Failure::Told);
+            outcome = Err(CommandError::Reported);
         }
     }
     outcome

@@ -19,9 +19,8 @@ impl Progress {
         Progress { since }
     }
 
-    // A bool, and not the text to say: the text would be made for each step, and is wanted once a second at most.
-
-    /// Whether something is to be said, since a second has gone by. Where that cannot be known nothing is said, and the work goes on.
+    /// Whether something is to be said, since a second has gone by. Where that cannot be known
+    /// nothing is said, and the work goes on.
     pub fn is_due(&mut self, rt: &HostRuntime) -> bool {
         let Some(since) = self.since else {
             return false;

@@ -1,7 +1,7 @@
 //! The verb show: the sizes, fields and blocks of a file, as a reader of a level sees them.
+use crate::arguments::LEVEL;
 use crate::blocks_shown::show_blocks;
-use crate::failure::{Failure, number, read_accepted};
-use crate::words::LEVEL;
+use crate::command_error::{CommandError, number, read_accepted};
 use format::Layout;
 use printed::{FieldLine, Opening, SizesText};
 use reader::{JudgedFile, RowAt};
@@ -24,11 +24,11 @@ fn show_accepted<'a>(
     bytes: &[u8],
     layout: Layout,
     level: usize,
-) -> Result<(), Failure<'a>> {
+) -> Result<(), CommandError<'a>> {
     let file = JudgedFile::of(bytes);
     let start = file
         .start(level)
-        .map_err(|fault| Failure::Refused(name, fault))?;
+        .map_err(|fault| CommandError::Refused(name, fault))?;
     let version = layout.version;
     rt.println(Opening {
         version,
@@ -51,16 +51,16 @@ fn show_accepted<'a>(
 }
 
 /// Prints what a reader of that level sees in a file.
-fn show_file<'a>(rt: &HostRuntime, name: &'a str, level: usize) -> Result<(), Failure<'a>> {
+fn show_file<'a>(rt: &HostRuntime, name: &'a str, level: usize) -> Result<(), CommandError<'a>> {
     let (bytes, layout) = read_accepted(rt, name)?;
     show_accepted(rt, name, bytes.as_slice(), layout, level)
 }
 
-/// Does what the words FILE [LEVEL] ask.
-pub fn show_words<'a>(rt: &HostRuntime, words: &'a [String]) -> Result<(), Failure<'a>> {
-    match words {
+/// Does what the arguments FILE [LEVEL] ask.
+pub fn show_verb<'a>(rt: &HostRuntime, arguments: &'a [String]) -> Result<(), CommandError<'a>> {
+    match arguments {
         [file] => show_file(rt, file.as_str(), LEVEL),
         [file, level] => show_file(rt, file.as_str(), number(level.as_str())?),
-        _ => Err(Failure::Misused("wrong count of words", "show")),
+        _ => Err(CommandError::Misused("wrong count of words", "show")),
     }
 }

@@ -1,8 +1,8 @@
-//! A task from start to end on built-in data: a station's file is drafted and judged, raised, given blocks, and read. Nothing is saved.
+//! A task from start to end on built-in data, of which nothing is saved.
+use crate::arguments::LEVEL;
 use crate::blocks_shown::show_blocks;
 use crate::calls_shown::Outcome;
 use crate::judge::judge_bytes;
-use crate::words::LEVEL;
 use draft::{BlockStage, Start};
 use editor::WorkingFile;
 use faults::Fault;
@@ -20,13 +20,14 @@ const START: Start = Start {
     ranges: 2,
 };
 
-/// Fields 1, 3 to 10, 13 and 14: the time, the site KIHN, 60 minutes, 13.5 MHz swept twice a second over 50 kHz, and cells of 3 km, from
-/// number 1 on. Floats are given by their bit patterns.
+/// Fields 1, 3 to 10, 13 and 14: the time, the site KIHN, 60 minutes, 13.5 MHz swept twice a second
+/// over 50 kHz, and cells of 3 km, from number 1 on. Floats are given by their bit patterns.
 const VALUES: [u32; 11] = [
     3786912000, 1263093838, 60, 0, 0, 1096286208, 1073741824, 1112014848, 0, 1, 1077936128,
 ];
 
-/// Fields 15 to 18 and 20: the output interval, who made the file, by the letters MRGT and a version, and three active channels.
+/// Fields 15 to 18 and 20: the output interval, who made the file, by the letters MRGT and a
+/// version, and three active channels.
 const MORE_VALUES: [u32; 5] = [30, 1297237844, 10, 3, 7];
 
 /// When the spectra were taken: 2024-01-01 00:00, over 3600 seconds, two hours ahead of UTC.
@@ -74,7 +75,7 @@ fn draft_station(buffer: &mut [u8]) -> Result<usize, Fault> {
     }
 }
 
-/// Raises the file by two versions, and puts four blocks behind its header.
+/// Raises the file by two versions, and puts four blocks after its header.
 fn fill_file(rt: &HostRuntime, file: &mut WorkingFile<'_>) -> io::Result<()> {
     rt.println(
         "2. It is raised to version 5 with the values of five fields, and to version 6, which has no more fields:",
@@ -125,7 +126,7 @@ fn row_numbers(file: &WorkingFile<'_>, level: usize) -> Result<[u32; 8], Fault> 
     Ok(numbers)
 }
 
-/// The bit patterns of numbers, each behind a space.
+/// The bit patterns of numbers, each after a space.
 #[derive(Drop)]
 struct Patterns([u32; 8]);
 

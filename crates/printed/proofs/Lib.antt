@@ -1,1 +1,2 @@
+mod MoreFields
 mod Reading

@@ -3,7 +3,6 @@ use Rattle.std.specs.Prelude.{ℕ, List, ◌++◌, codes, decimal}
 use Rattle.std.proofs.Math.Utf8.{encode}
 use Rattle.std.specs.List.{flat_map}
 use Rattle.reader.specs.declared.blocks.Entry.{Entry}
-use Rattle.records.specs.declared.fill.Fill.{Fill}
 use Rattle.printed.specs.Keys.{letter_of, key_text}
 
 -- number, key, place and size of a block: block 1 FILL at 104, size 4
@@ -18,9 +17,3 @@ letter_text x = encode (letter_of 32 126 x)
 
 abbrev pub quoted_text : List ℕ → List ℕ
 quoted_text text = (codes "\"" ++ flat_map letter_text text) ++ codes "\""
-
--- the numbers of a FILL block
-abbrev pub fill_text : Fill → List ℕ
-fill_text x =
-    codes "range_method " ++ (decimal x.range_method ++ (codes ", range_multiple " ++ (decimal x.range_multiple
-    ++ (codes ", doppler_method " ++ (decimal x.doppler_method ++ (codes ", doppler_multiple " ++ decimal x.doppler_multiple))))))

@@ -5,3 +5,4 @@ pub mod Fields
 pub mod Blocks
 pub mod Patterns
 pub mod Refusal
+pub mod Named

@@ -11,7 +11,7 @@ abbrev pub row_patterns : List ℕ → ℕ → ℕ → ℕ → Result (List ℕ)
 row_patterns b level cell row = row_part b level cell row with λ p. Ok (patterns p)
 
 -- a result holds those patterns, or has that fault; where memory is out it says nothing of them
-abbrev pub Holds : {V : Type 0} → (V → List ℕ) → Result (List ℕ) Fault → Result V RowError → Type 0
-Holds items answer (Ok v) = answer ≡ Ok (items v)
-Holds items answer (Err (Refused f)) = answer ≡ Err f
-Holds items answer (Err (OutOfMemory e)) = ⊤
+abbrev pub HoldsPatterns : {V : Type 0} → (V → List ℕ) → Result (List ℕ) Fault → Result V RowError → Type 0
+HoldsPatterns items answer (Ok v) = answer ≡ Ok (items v)
+HoldsPatterns items answer (Err (Refused f)) = answer ≡ Err f
+HoldsPatterns items answer (Err (OutOfMemory e)) = ⊤

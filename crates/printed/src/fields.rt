@@ -1,6 +1,6 @@
 //! The fields of a file's header: their names, and the line of each.
 ghost use Rattle.std.specs.Prelude.{◌≡◌};
-ghost use Rattle.printed.specs.Fields.{name_of, form_of, field_text};
+ghost use Rattle.printed.specs.Fields.{header_field_name, field_form, field_line};
 
 use crate::keys::{Key, SPACE, TILDE};
 use std::fmt;
@@ -51,10 +51,8 @@ const NAMES: [&str; 21] = [
 ];
 
 /// CODAR's name of a field; nothing is printed for a field that there is not.
-// An empty name and no Option: a line is made for any number, and its definition has no name there. (`get(number).copied()` was
-// tried for the index: its proof stops at the step limit.)
 fn field_name(number: usize) -> &'static str
-    ensures { result.now ≡ name_of number }
+    ensures { result.now ≡ header_field_name number }
 {
     if number < NAMES.len() {
         NAMES[number]
@@ -65,7 +63,7 @@ fn field_name(number: usize) -> &'static str
 
 /// How a field is printed.
 fn field_form(number: usize) -> Form
-    ensures { result ≡ form_of number }
+    ensures { result ≡ field_form number }
 {
     match number {
         3 | 16 | 17 => Form::Letters,
@@ -77,7 +75,7 @@ fn field_form(number: usize) -> Form
 impl FieldLine {
     /// The line of the field of that number, which has that pattern.
     pub fn of(number: usize, pattern: u32) -> FieldLine
-        ensures { (result.number ≡ number) × (result.form ≡ form_of number) × (result.pattern ≡ pattern) }
+        ensures { (result.number ≡ number) × (result.form ≡ field_form number) × (result.pattern ≡ pattern) }
     {
         FieldLine {
             number,
@@ -88,7 +86,7 @@ impl FieldLine {
 }
 
 impl fmt::Display for FieldLine {
-    ghost output = { λ x. field_text x.form x.number x.pattern };
+    ghost output = { λ x. field_line x.form x.number x.pattern };
 
     fn fmt<W: fmt::Write>(&self, f: &mut fmt::Formatter<W>) -> fmt::Result {
         let FieldLine {

@@ -11,14 +11,12 @@ pub const SPACE: u8 = 32;
 
 pub const TILDE: u8 = 126;
 
-/// A block's key or another code of four letters, as the big-endian number of its bytes, with the first and the
-/// last byte that are shown as themselves.
+/// A block's key or another code of four letters, as the big-endian number of its bytes, with the
+/// first and the last byte that are shown as themselves.
 #[derive(Clone, Copy)]
 pub struct Key<const FIRST: u8, const LAST: u8>(pub u32);
 
-// Both ends are the caller's, though all share the last: which letters a line shows is a rule of the line.
-
-/// A byte as a letter; what lies before the first byte shown or behind the last is a question mark.
+/// A byte as a letter; what lies before the first byte shown or after the last is a question mark.
 pub fn letter<const FIRST: u8, const LAST: u8>(byte: u8) -> char
     ensures { result ≡ letter_of FIRST LAST byte }
 {

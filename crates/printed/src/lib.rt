@@ -1,4 +1,4 @@
-//! What is printed of a file, as values that say their own text; and the lists that the program makes to print.
+//! What is printed of a file, as values that say their own text, and as lists.
 #![tactic(auto)]
 
 mod fields;
@@ -13,7 +13,7 @@ mod table;
 pub use fields::{FieldLine, Form};
 pub use heads::Head;
 pub use keys::{Key, SPACE, TILDE, key_list, letter};
-pub use named::{Named, quoted};
+pub use named::{quoted, record_text};
 pub use overview::{Opening, SizesText};
 pub use refused::Refused;
 pub use rows::{RowError, row_patterns};

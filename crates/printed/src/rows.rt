@@ -1,22 +1,24 @@
 //! The numbers of a row, in a list of just their count.
 ghost use Rattle.std.specs.Prelude.{◌≡◌, vec_items};
 ghost use Rattle.printed.specs.declared.rows.RowError.TheVariants.{Refused, OutOfMemory};
-ghost use Rattle.printed.specs.Patterns.{row_patterns, Holds};
+ghost use Rattle.printed.specs.Patterns.{row_patterns, HoldsPatterns};
 
 use faults::Fault;
 use reader::{JudgedFile, RowAt};
 use std::alloc::{AllocError, Global};
+use thiserror::Error;
 
 /// Why a row has no list of numbers.
-#[derive(Clone, Copy, PartialEq, Eq, Debug)]
+#[derive(Clone, Copy, PartialEq, Eq, Debug, Error)]
 pub enum RowError {
     /// The row is refused.
+    #[error(transparent)]
     Refused(Fault),
     /// There is no memory for the list.
+    #[error(transparent)]
     OutOfMemory(AllocError),
 }
 
-// Both `From` are written here, since a derived one says in no contract which error it makes.
 impl From<Fault> for RowError {
     ghost from_gives = { λ fault e. e ≡ Refused fault };
 
@@ -35,7 +37,7 @@ impl From<AllocError> for RowError {
 
 /// The patterns of a row; refuses as `JudgedFile::row` does.
 pub fn row_patterns(heap: Global, file: &JudgedFile, at: RowAt) -> Result<Vec<u32>, RowError>
-    ensures { Holds vec_items (row_patterns file.now.bytes.now at.level at.cell at.row) result }
+    ensures { HoldsPatterns vec_items (row_patterns file.now.bytes.now at.level at.cell at.row) result }
 {
     let (_, length) = file.row(at)?;
     let mut list = vec![in heap; 0; length / 4]?;

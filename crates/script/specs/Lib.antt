@@ -1,6 +1,6 @@
-pub mod Misread
+pub mod ArgumentError
 pub mod Numbers
 pub mod Records
-pub mod Written
-pub mod Words
+pub mod Fields
+pub mod Arguments
 pub mod Literal

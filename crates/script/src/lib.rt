@@ -1,16 +1,14 @@
-//! The reading of scripts: text with one call to a line, and words parted by spaces.
+//! The reading of scripts: text with one call to a line, and arguments parted by spaces.
 #![tactic(auto)]
 
-mod from_words;
+mod argument_error;
+mod arguments;
+mod fields;
 mod literal;
-mod misread;
 mod numbers;
-mod to_words;
-mod words;
 
-pub use from_words::FromWords;
+pub use argument_error::ArgumentError;
+pub use arguments::Arguments;
+pub use fields::{Field, Fields, Numeral, arguments_text};
 pub use literal::{Literal, hexadecimal, key_of};
-pub use misread::Misread;
 pub use numbers::Number;
-pub use to_words::ToWords;
-pub use words::Words;

@@ -2,18 +2,18 @@
 ghost use Rattle.std.specs.Prelude.{ℕ, List};
 ghost use Rattle.buffers.specs.Words.{one, two, four, eight};
 ghost use Rattle.kinds.specs.Packed.{Part, plain, signed, folded};
-ghost use Rattle.script.specs.Numbers.{Writes};
+ghost use Rattle.script.specs.Numbers.{NamesNumber};
 
-/// A number that a word can write.
-// Each type has an impl of its own: the gate takes none that a macro of this repository writes.
+/// A number that an argument can write.
 pub trait Number: Copy {
     ghost part: { Part };
 
     ghost number: { Self → ℕ };
 
-    /// The number that a word writes in decimal digits; nothing where it writes none, or one that does not fit.
-    fn named(word: &str) -> Option<Self>
-        ensures { Writes number part word.now result };
+    /// The number that an argument writes in decimal digits; nothing where it writes none, or one
+    /// that does not fit.
+    fn named(argument: &str) -> Option<Self>
+        ensures { NamesNumber number part argument.now result };
 }
 
 impl Number for u8 {
@@ -21,8 +21,8 @@ impl Number for u8 {
 
     ghost number = { λ x. x };
 
-    fn named(word: &str) -> Option<u8> {
-        word.parse::<u8>().ok()
+    fn named(argument: &str) -> Option<u8> {
+        argument.parse::<u8>().ok()
     }
 }
 
@@ -31,8 +31,8 @@ impl Number for u16 {
 
     ghost number = { λ x. x };
 
-    fn named(word: &str) -> Option<u16> {
-        word.parse::<u16>().ok()
+    fn named(argument: &str) -> Option<u16> {
+        argument.parse::<u16>().ok()
     }
 }
 
@@ -41,8 +41,8 @@ impl Number for u32 {
 
     ghost number = { λ x. x };
 
-    fn named(word: &str) -> Option<u32> {
-        word.parse::<u32>().ok()
+    fn named(argument: &str) -> Option<u32> {
+        argument.parse::<u32>().ok()
     }
 }
 
@@ -51,8 +51,8 @@ impl Number for u64 {
 
     ghost number = { λ x. x };
 
-    fn named(word: &str) -> Option<u64> {
-        word.parse::<u64>().ok()
+    fn named(argument: &str) -> Option<u64> {
+        argument.parse::<u64>().ok()
     }
 }
 
@@ -61,8 +61,8 @@ impl Number for usize {
 
     ghost number = { λ x. x };
 
-    fn named(word: &str) -> Option<usize> {
-        word.parse::<usize>().ok()
+    fn named(argument: &str) -> Option<usize> {
+        argument.parse::<usize>().ok()
     }
 }
 
@@ -71,7 +71,7 @@ impl Number for i16 {
 
     ghost number = { folded };
 
-    fn named(word: &str) -> Option<i16> {
-        word.parse::<i16>().ok()
+    fn named(argument: &str) -> Option<i16> {
+        argument.parse::<i16>().ok()
     }
 }

@@ -1,6 +1,2 @@
-pub mod Bytes
-pub mod Lines
-pub mod Listed
-pub mod Named
-pub mod Outcome
-pub mod Room
+pub mod LineCalls
+pub mod Names

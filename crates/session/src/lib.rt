@@ -1,20 +1,12 @@
-//! The calls of a script, as its lines ask for them, and what is said of each: what the verbs `draft` and `run` share.
+//! The session of a run: a working file and a draft, and the calls that a script makes of them.
 #![tactic(auto)]
 
-mod bytes;
-mod drafting;
-mod files;
-mod lines;
-mod listed;
-mod named;
-mod outcome;
-mod room;
+mod edits;
+mod names;
+mod questions;
+mod running;
+mod working;
 
-pub use bytes::{all_numbers, last_text, next_bytes, only_bytes, only_number};
-pub use drafting::Drafting;
-pub use files::{Unread, Unwritten, check_free, read_file, write_whole};
-pub use lines::{Line, Misdone, Undone};
-pub use listed::{Word, bytes_text, entries_text, patterns_text, reading_text};
-pub use named::{ForKind, by_key};
-pub use outcome::{Answer, Outcome};
-pub use room::Room;
+pub use names::{Call, Edit, Question};
+pub use running::Session;
+pub use working::Working;
