@@ -10,7 +10,8 @@ word16 b at = slice_index b at * 256 + slice_index b (at + 1)
 
 -- the unsigned number in four bytes, the highest one first
 abbrev pub word32 : List ℕ → ℕ → ℕ
-word32 b at = slice_index b at * 16777216 + slice_index b (at + 1) * 65536 + slice_index b (at + 2) * 256 + slice_index b (at + 3)
+word32 b at =
+    slice_index b at * 16777216 + slice_index b (at + 1) * 65536 + slice_index b (at + 2) * 256 + slice_index b (at + 3)
 
 -- the unsigned number in eight bytes, the highest one first
 abbrev pub word64 : List ℕ → ℕ → ℕ

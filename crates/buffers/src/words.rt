@@ -1,5 +1,5 @@
-//! Words: numbers of fixed width, the highest byte first. A word is defined at every place, since a byte behind the end
-//! counts as 0.
+//! Words: numbers of fixed width, the highest byte first. A word is defined at every place, since a
+//! byte behind the end counts as 0.
 ghost use Rattle.std.specs.Prelude.{◌≡◌, ℕ, ◌+◌, List, [], ◌∷◌, length, slice_index, refl};
 ghost use Rattle.std.specs.Int.{w16, w32};
 ghost use Rattle.std.proofs.Common.{of_z};
@@ -30,7 +30,6 @@ pub trait Word: Copy {
 }
 
 /// The byte `by` places behind `at`, or 0 behind the end.
-// Each width lists its bytes itself: tried was `array::from_fn` at a const parameter, from which the proof got no byte.
 fn byte_after(bytes: &[u8], at: usize, by: usize) -> u8
     ensures { result ≡ slice_index bytes.now (at + by) }
 {

@@ -3,6 +3,7 @@ ghost use Rattle.std.specs.Prelude.{◌≡◌, IfOk};
 ghost use Rattle.script.specs.Numbers.{number_for};
 ghost use Rattle.calls.specs.Bytes.{IsSaidBy};
 ghost use Rattle.script.specs.Arguments.{argument, after_argument};
+ghost use Rattle.script.specs.Rest.{rest_of};
 
 use crate::errors::CallError;
 use crate::files::read_file;
@@ -25,8 +26,8 @@ pub fn next_bytes<'a>(
     rt: &HostRuntime,
     arguments: &mut Arguments<'a>,
 ) -> Result<Vec<u8>, CallError<'a>>
-    ensures bytes { IfOk result (λ v. IsSaidBy (argument arguments.old.rest.now) v.items) }
-    ensures rest { arguments.new.rest.now ≡ after_argument arguments.old.rest.now }
+    ensures bytes { IfOk result (λ v. IsSaidBy (argument (rest_of arguments.old)) v.items) }
+    ensures rest { rest_of arguments.new ≡ after_argument (rest_of arguments.old) }
 {
     match arguments.next() {
         Some(argument) => bytes_of(rt, argument),
@@ -39,7 +40,7 @@ pub fn only_bytes<'a>(
     rt: &HostRuntime,
     mut arguments: Arguments<'a>,
 ) -> Result<Vec<u8>, CallError<'a>>
-    ensures { IfOk result (λ v. IsSaidBy (argument arguments.entry.rest.now) v.items) }
+    ensures { IfOk result (λ v. IsSaidBy (argument (rest_of arguments.entry)) v.items) }
 {
     let bytes = next_bytes(rt, &mut arguments)?;
     arguments.end()?;
@@ -61,7 +62,7 @@ pub fn last_text<'a>(
 
 /// The number that the only argument writes.
 pub fn only_number<N: Number>(mut arguments: Arguments) -> Result<N, ArgumentError>
-    ensures { IfOk result (λ n. N.number n ≡ number_for N.part (argument arguments.entry.rest.now)) }
+    ensures { IfOk result (λ n. N.number n ≡ number_for N.part (argument (rest_of arguments.entry))) }
 {
     let number = arguments.number()?;
     arguments.end()?;

@@ -6,19 +6,18 @@ use Rattle.std.proofs.Math.Seq.{drop-append-add, drop-append_seam, take-append_s
 use Rattle.std.proofs.lemmas.List.{drop-drop}
 use Rattle.buffers.specs.Moves.{written}
 use Rattle.buffers.specs.Words.{Bytes}
-use Rattle.format.specs.Changes.{with_cells, settled}
-use Rattle.format.specs.Content.{Block, Content, Sound, Writable, block_bytes, section, start, header, write, content_sizes}
+use Rattle.format.specs.Changes.{with_cells, settled_header, with_last}
+use Rattle.format.specs.Content.{Block, Content, IsSound, IsWritable, block_bytes, section, start, header, write, content_sizes}
 use Rattle.format.specs.Header.{header_end}
 use Rattle.format.specs.Rows.{cells_size}
 use Rattle.format.proofs.Trip.{head_six}
 use Rattle.format.proofs.Writing.{header_long, writing_changes}
-use Rattle.editor.specs.Calls.{with_file}
-use Rattle.editor.specs.Edits.{with_last}
-use Rattle.editor.proofs.BlockPlans.{block_long}
-use Rattle.editor.proofs.Filling.{settled-length}
-use Rattle.editor.proofs.SoundBlocks.{fit_slots}
-use Rattle.editor.proofs.Spliced.{section-append, settled_file}
-use Rattle.draft.specs.Law.{Growing}
+use Rattle.format.specs.InBuffer.{with_file}
+use Rattle.editor.proofs.patches.BlockPlans.{block_long}
+use Rattle.editor.proofs.patches.Filling.{settled-length}
+use Rattle.editor.proofs.laws.SoundBlocks.{fit_slots}
+use Rattle.editor.proofs.patches.Spliced.{section-append, settled_file}
+use Rattle.draft.specs.Law.{IsGrowing}
 
 -- a file at the start of a buffer, where none stood before
 pub file_in : (buffer x : List ℕ) → with_file buffer 0 x ≡ x ++ drop (length x) buffer
@@ -55,16 +54,16 @@ zero_bytes : (n : ℕ) → Bytes (replicate n 0)
 zero_bytes zero = tt
 zero_bytes (suc n) = (omega arith, zero_bytes n)
 
-pub filled_sound : (c : Content) → Growing c → Sound (with_cells c (zeros c))
+pub filled_sound : (c : Content) → IsGrowing c → IsSound (with_cells c (zeros c))
 filled_sound c g = g.whole (zeros c) (zero_bytes (cells_size (content_sizes c))) (length-replicate (cells_size (content_sizes c)) 0)
 
-pub head_long : (c : Content) → Growing c → length (header c) ≡ header_end c.version
+pub head_long : (c : Content) → IsGrowing c → length (header c) ≡ header_end c.version
 head_long c g = header_long (with_cells c (zeros c)) (filled_sound c g).fields_fit
 
 -- ---- a block more
 -- a content that has a header and blocks alone
 pub record Bare (c : Content) : Type 0 where
-  pub growing : Growing c
+  pub growing : IsGrowing c
   pub no_gap : c.gap ≡ []
   pub no_cells : c.cells ≡ []
   pub no_tail : c.tail ≡ []
@@ -101,7 +100,7 @@ module _ (c : Content) (k : Block) (four : length k.key ≡ 4) (bare : Bare c) w
       omega arith
 
   -- the writing with the block, by the writing without it
-  pub last_written : write (with_last c k) ≡ settled (write c) (length (write c) + (8 + length k.body)) (length (write c) + (8 + length k.body) - 104) ++ block_bytes k
+  pub last_written : write (with_last c k) ≡ settled_header (write c) (length (write c) + (8 + length k.body)) (length (write c) + (8 + length k.body) - 104) ++ block_bytes k
   last_written =
       let d = with_last c k in
       let ks = c.blocks ++ (k ∷ []) in
@@ -112,46 +111,46 @@ module _ (c : Content) (k : Block) (four : length k.key ≡ 4) (bare : Bare c) w
       let old = bare_writing c bare.no_gap bare.no_cells bare.no_tail in
       let rest : drop (length (header c)) (write c) ≡ section c.blocks = ap (drop (length (header c))) old ∙ drop-append_seam (header c) (section c.blocks) in
       let apart : with_file (write c) 0 (header c) ≡ write c = file_in (write c) (header c) ∙ ap (λ (x : List ℕ). header c ++ x) rest ∙ sym old in
-      let moved : settled (write c) end (end - 104) ≡ with_file (write c) 0 (settled (header c) end (end - 104)) =
-      ap (λ (x : List ℕ). settled x end (end - 104)) (sym apart) ∙ settled_file (write c) (header c) 0 end (end - 104) (omega (arith, head)) in
-      let same : length (settled (header c) end (end - 104)) ≡ length (header c) = settled-length (header c) end (end - 104) (omega (arith, head)) in
-      let whole : settled (write c) end (end - 104) ≡ settled (header c) end (end - 104) ++ section c.blocks =
-      moved ∙ file_in (write c) (settled (header c) end (end - 104)) ∙ ap (λ (n : ℕ). settled (header c) end (end - 104) ++ drop n (write c)) same
-      ∙ ap (λ (x : List ℕ). settled (header c) end (end - 104) ++ x) rest in
-      let front : header d ≡ settled (header c) end (end - 104) =
+      let moved : settled_header (write c) end (end - 104) ≡ with_file (write c) 0 (settled_header (header c) end (end - 104)) =
+      ap (λ (x : List ℕ). settled_header x end (end - 104)) (sym apart) ∙ settled_file (write c) (header c) 0 end (end - 104) (omega (arith, head)) in
+      let same : length (settled_header (header c) end (end - 104)) ≡ length (header c) = settled-length (header c) end (end - 104) (omega (arith, head)) in
+      let whole : settled_header (write c) end (end - 104) ≡ settled_header (header c) end (end - 104) ++ section c.blocks =
+      moved ∙ file_in (write c) (settled_header (header c) end (end - 104)) ∙ ap (λ (n : ℕ). settled_header (header c) end (end - 104) ++ drop n (write c)) same
+      ∙ ap (λ (x : List ℕ). settled_header (header c) end (end - 104) ++ x) rest in
+      let front : header d ≡ settled_header (header c) end (end - 104) =
       (writing_changes (with_cells c (zeros c)) (filled_sound c bare.growing)).header_change ks bare.late
-      ∙ ap (λ (n : ℕ). settled (header c) n (length (section ks))) starts ∙ ap (λ (n : ℕ). settled (header c) end n) size in
+      ∙ ap (λ (n : ℕ). settled_header (header c) n (length (section ks))) starts ∙ ap (λ (n : ℕ). settled_header (header c) end n) size in
       bare_writing d bare.no_gap bare.no_cells bare.no_tail
       ∙ ap (λ (x : List ℕ). x ++ section ks) front
-      ∙ ap (λ (x : List ℕ). settled (header c) end (end - 104) ++ x) (section-append c.blocks (k ∷ []) ∙ ap (λ (x : List ℕ). section c.blocks ++ x) (append-nil (block_bytes k)))
-      ∙ sym (append_assoc (settled (header c) end (end - 104)) (section c.blocks) (block_bytes k))
+      ∙ ap (λ (x : List ℕ). settled_header (header c) end (end - 104) ++ x) (section-append c.blocks (k ∷ []) ∙ ap (λ (x : List ℕ). section c.blocks ++ x) (append-nil (block_bytes k)))
+      ∙ sym (append_assoc (settled_header (header c) end (end - 104)) (section c.blocks) (block_bytes k))
       ∙ ap (λ (x : List ℕ). x ++ block_bytes k) (sym whole)
 
   pub last_long : length (write (with_last c k)) ≡ length (write c) + (8 + length k.body)
   last_long =
       let end = length (write c) + (8 + length k.body) in
       let l = long in
-      ap length last_written ∙ length-append (settled (write c) end (end - 104)) (block_bytes k)
+      ap length last_written ∙ length-append (settled_header (write c) end (end - 104)) (block_bytes k)
       ∙ ap (λ (n : ℕ). n + length (block_bytes k)) (settled-length (write c) end (end - 104) (omega arith))
       ∙ ap (λ (n : ℕ). length (write c) + n) (block_long k.key k.body four)
 
   -- in a buffer
   pub last_in_buffer : (buffer before : List ℕ) → buffer ≡ with_file before 0 (write c)
-      → written (settled buffer (length (write c) + (8 + length k.body)) (length (write c) + (8 + length k.body) - 104)) (length (write c)) (block_bytes k) ≡ with_file before 0 (write (with_last c k))
+      → written (settled_header buffer (length (write c) + (8 + length k.body)) (length (write c) + (8 + length k.body) - 104)) (length (write c)) (block_bytes k) ≡ with_file before 0 (write (with_last c k))
   last_in_buffer buffer before e =
       let end = length (write c) + (8 + length k.body) in
       let l = long in
-      ap (λ (x : List ℕ). written (settled x end (end - 104)) (length (write c)) (block_bytes k)) e
+      ap (λ (x : List ℕ). written (settled_header x end (end - 104)) (length (write c)) (block_bytes k)) e
       ∙ ap (λ (x : List ℕ). written x (length (write c)) (block_bytes k)) (settled_file before (write c) 0 end (end - 104) (omega arith))
-      ∙ written_behind before (settled (write c) end (end - 104)) (block_bytes k) (length (write c)) (settled-length (write c) end (end - 104) (omega arith))
+      ∙ written_behind before (settled_header (write c) end (end - 104)) (block_bytes k) (length (write c)) (settled-length (write c) end (end - 104) (omega arith))
       ∙ ap (with_file before 0) (sym last_written)
 
   -- it is sound as far as it goes, if it is not too long
-  pub last_growing : Bytes k.key → Bytes k.body → length (write (with_last c k)) ≤ 1073741824 → Growing (with_last c k)
+  pub last_growing : Bytes k.key → Bytes k.body → length (write (with_last c k)) ≤ 1073741824 → IsGrowing (with_last c k)
   last_growing key body room =
       let l = last_long in
       let s = starts in
-      let writable : Writable k = record { key_size = four; key_bytes = key; body_size = omega arith; body_bytes = body } in
+      let writable : IsWritable k = record { key_size = four; key_bytes = key; body_size = omega arith; body_bytes = body } in
       record {
         cells_bytes = bare.growing.cells_bytes;
         whole = λ cells fit size.
@@ -166,7 +165,7 @@ module _ (c : Content) (k : Block) (four : length k.key ≡ 4) (bare : Bare c) w
               ranges_from = old.ranges_from;
               ranges_to = old.ranges_to;
               channels = old.channels;
-              blocks_fit = All-append Writable c.blocks (k ∷ []) old.blocks_fit (writable, tt);
+              blocks_fit = All-append IsWritable c.blocks (k ∷ []) old.blocks_fit (writable, tt);
               blocks_from_six = λ early. absurd (omega (arith, bare.late));
               gap_bytes = old.gap_bytes;
               cells_bytes = old.cells_bytes;
@@ -196,5 +195,5 @@ cells_in_buffer c more buffer before t e =
     ap (λ (x : List ℕ). written x (length (write c)) more) e ∙ written_behind before (write c) more (length (write c)) refl
     ∙ ap (with_file before 0) (sym (cells_written c more t))
 
-pub cells_growing : (c : Content) (more : List ℕ) → Bytes more → Growing c → Growing (with_cells c (c.cells ++ more))
+pub cells_growing : (c : Content) (more : List ℕ) → Bytes more → IsGrowing c → IsGrowing (with_cells c (c.cells ++ more))
 cells_growing c more b g = record { cells_bytes = All-append (λ x. x < 256) c.cells more g.cells_bytes b; whole = g.whole }

@@ -1,5 +1,4 @@
 pub mod Versions
-pub mod Fields
 pub mod Blocks
 pub mod Begun
 pub mod Opened

@@ -1,7 +1,6 @@
 -- What holds of each of the versions that a draft may have.
-use Rattle.std.proofs.Common.{◌≡◌, ℕ, ◌≤◌, ◌<◌, ◌≢◌, refl, sym, subst, ⊎_elim, arith}
+use Rattle.std.proofs.Common.{◌≡◌, ℕ, ◌≤◌, ◌<◌, subst, ⊎_elim, arith}
 use Rattle.std.proofs.lemmas.Bool.{cases_lt}
-use Rattle.draft.specs.Drafts.{values_wanted}
 
 pub by_version : (P : ℕ → Type 0) → P 4 → P 5 → P 6 → (v : ℕ) → 4 ≤ v → v ≤ 6 → P v
 by_version P four five six v from to =
@@ -12,10 +11,3 @@ by_version P four five six v from to =
     (λ (k : 6 ≤ v). let e : 6 ≡ v = omega arith in subst P e six)
     (cases_lt v 6))
     (cases_lt v 5)
-
--- how many values a draft takes
-pub eleven_values : (v : ℕ) → v ≡ 4 → 11 ≡ values_wanted v
-eleven_values v e = subst (λ (n : ℕ). 11 ≡ values_wanted n) (sym e) refl
-
-pub sixteen_values : (v : ℕ) → 4 ≤ v → v ≤ 6 → v ≢ 4 → 16 ≡ values_wanted v
-sixteen_values v from to other = by_version (λ n. n ≢ 4 → 16 ≡ values_wanted n) (λ no. absurd (no refl)) (λ no. refl) (λ no. refl) v from to other

@@ -1,4 +1,4 @@
 pub mod Drafts
-pub mod Headers
 pub mod Stages
 pub mod Law
+pub mod steps

@@ -3,20 +3,25 @@ ghost use Rattle.std.specs.Prelude.{◌≡◌, ◌+◌, ◌≤◌, length, IfOk,
 ghost use Rattle.std.specs.Result.{result_ok};
 ghost use Rattle.format.specs.Checks.{passed};
 ghost use Rattle.format.specs.Content.{Content};
+ghost use Rattle.format.specs.InBuffer.{most_bytes};
 ghost use Rattle.draft.specs.Drafts.{lay};
-ghost use Rattle.draft.specs.Law.{Brought, Stands, Follows};
-ghost use Rattle.draft.specs.Stages.{of_cells, state, answer, after, close_answer};
+ghost use Rattle.draft.specs.Law.{IsStepGiven, Stands, Follows};
+ghost use Rattle.draft.specs.Stages.{of_cells, draft_state, step_answer, draft_after, close_answer};
 
 use crate::stages::CellStage;
 use buffers::write_bytes;
 use faults::{Fault, Refusal};
 
 impl CellStage {
-    /// Refuses 38, with the cells laid, if all are laid, 17, with the bytes of a cell, for another count of bytes, and 32, with the bytes
-    /// that the draft would have, for more than the capacity.
+    /// Refuses 38, with the cells laid, if all are laid, 17, with the bytes of a cell, for another
+    /// count of bytes, and 32, with the bytes that the draft would have, for more than the
+    /// capacity.
     fn check_lay(&self, buffer: &[u8], bytes: &[u8]) -> Result<(), Fault>
-        ensures refuses { result ≡ answer (lay bytes.now) (state (of_cells self.now) buffer.now) }
-        ensures inside { IfOk result (λ _. (self.now.draft.size + self.now.draft.cell ≤ length buffer.now) × (self.now.draft.size + self.now.draft.cell ≤ 1073741824)) }
+        ensures refuses { result
+            ≡ step_answer (lay bytes.now) (draft_state (of_cells self.now) buffer.now) }
+        ensures inside { IfOk result (λ _.
+            (self.now.draft.size + self.now.draft.cell ≤ length buffer.now)
+            × (self.now.draft.size + self.now.draft.cell ≤ most_bytes)) }
         ensures few { IfOk result (λ _. self.now.laid + 1 ≤ self.now.draft.cells) }
         ensures long { IfOk result (λ _. length bytes.now ≡ self.now.draft.cell) }
     {
@@ -29,13 +34,17 @@ impl CellStage {
         self.draft.check_room(buffer, self.draft.cell)
     }
 
-    /// Lays the bytes of the next cell and gives the draft back; refuses 38, with the cells laid, if all are laid, 17, with the bytes of a
-    /// cell, for another count of bytes, and 32, with the bytes that the draft would have, for more than the capacity.
+    /// Lays the bytes of the next cell and gives the draft back; refuses 38, with the cells laid,
+    /// if all are laid, 17, with the bytes of a cell, for another count of bytes, and 32, with the
+    /// bytes that the draft would have, for more than the capacity.
     pub fn lay(self, buffer: &mut [u8], bytes: &[u8]) -> (CellStage, Result<(), Fault>)
-        ensures answer { result.1 ≡ answer (lay bytes.now) (state (of_cells self) buffer.old) }
-        ensures given { Brought (lay bytes.now) }
-        ensures after { state (of_cells result.0) buffer.new ≡ after (lay bytes.now) (state (of_cells self) buffer.old) }
-        ensures content { (c : Content) → Stands c (of_cells self) → Follows (lay bytes.now) (state (of_cells self) buffer.old) c }
+        ensures answer { result.1
+            ≡ step_answer (lay bytes.now) (draft_state (of_cells self) buffer.old) }
+        ensures given { IsStepGiven (lay bytes.now) }
+        ensures after { draft_state (of_cells result.0) buffer.new
+            ≡ draft_after (lay bytes.now) (draft_state (of_cells self) buffer.old) }
+        ensures content { (c : Content) → Stands c (of_cells self)
+            → Follows (lay bytes.now) (draft_state (of_cells self) buffer.old) c }
     {
         let outcome = self.check_lay(buffer, bytes);
         if outcome.is_err() {
@@ -48,10 +57,12 @@ impl CellStage {
         (CellStage { draft, laid }, Ok(()))
     }
 
-    /// Ends the draft: how many bytes the file has; refuses 38, with the cells laid, while some are missing, and gives the draft back.
+    /// Ends the draft: how many bytes the file has; refuses 38, with the cells laid, while some are
+    /// missing, and gives the draft back.
     pub fn close(self) -> Result<usize, (Fault, CellStage)>
         ensures closed { IfOk result (λ n. Ok n ≡ close_answer (of_cells self)) }
-        ensures refused { IfErr result (λ r. (Err r.0 ≡ close_answer (of_cells self)) × (of_cells r.1 ≡ of_cells self)) }
+        ensures refused { IfErr result (λ r. (Err r.0 ≡ close_answer (of_cells self))
+            × (of_cells r.1 ≡ of_cells self)) }
     {
         if self.laid < self.draft.cells {
             return Err((Fault::at(Refusal::CellCount, self.laid), self));

@@ -1,9 +1,11 @@
-//! A client of the draft: a whole file of one cell, whose contract is said by the content of the accepted calls.
+//! A client of the draft: a whole file of one cell, whose contract is said by the content of the
+//! accepted calls.
 ghost use Rattle.std.specs.Prelude.{◌≡◌, [], ◌∷◌, IfOk, IfErr};
 ghost use Rattle.format.specs.Checks.{passed};
-ghost use Rattle.editor.specs.Calls.{capacity};
-ghost use Rattle.draft.specs.Drafts.{put, carried, lay, begun, beginning};
-ghost use Rattle.draft.specs.Law.{called, turned, closing, told, Ended};
+ghost use Rattle.kinds.specs.Kind.{payload};
+ghost use Rattle.format.specs.InBuffer.{capacity};
+ghost use Rattle.draft.specs.Drafts.{put, carried, lay, begun_content, begin_outcome};
+ghost use Rattle.draft.specs.Law.{called, turned, closing, content_of_run, IsEnded};
 
 use crate::stages::BlockStage;
 use crate::start::Start;
@@ -40,17 +42,20 @@ pub struct Drafted {
     pub closed: Result<usize, Fault>,
 }
 
-/// Drafts a file from begin to close, each call once, whatever those before it answered; refuses as begin does. The buffer then begins with
-/// what the format writes for the content of the accepted calls, and if the draft was closed, judging accepts it with that content.
+/// Drafts a file from begin to close, each call once, whatever those before it answered; refuses as
+/// begin does. The buffer then begins with what the format writes for the content of the accepted
+/// calls, and if the draft was closed, judging accepts it with that content.
 pub fn draft_file<K: Kind>(
     buffer: &mut [u8],
     parts: &Parts<'_>,
     value: K::Record,
 ) -> Result<Drafted, Fault>
-    ensures answer { passed result ≡ passed (beginning (capacity buffer.old) parts.now.start parts.now.values.now) }
+    ensures answer { passed result
+        ≡ passed (begin_outcome (capacity buffer.old) parts.now.start parts.now.values.now) }
     ensures refused { IfErr result (λ f. buffer.new ≡ buffer.old) }
-    ensures drafted { IfOk result (λ r. Ended (told (begun parts.now.start parts.now.values.now) (
-        called (put K.kind (K.numbers value) parts.now.text.now) r.put
+    ensures drafted { IfOk result (λ r.
+        IsEnded (content_of_run (begun_content parts.now.start parts.now.values.now) (
+        called (put (payload K.kind (K.numbers value) parts.now.text.now)) r.put
         ∷ called (carried parts.now.key parts.now.body.now) r.carried
         ∷ turned
         ∷ called (lay parts.now.cell.now) r.laid

@@ -1,48 +1,28 @@
 //! The header of a draft, written one word after the other.
-ghost use Rattle.std.specs.Prelude.{◌≡◌, ◌+◌, ◌-◌, ◌^◌, ◌<◌, ◌≤◌, length, not, filter};
-ghost use Rattle.buffers.specs.Moves.{written};
-ghost use Rattle.buffers.specs.Words.{be};
-ghost use Rattle.format.specs.Header.{the_field, header_end};
-ghost use Rattle.draft.specs.Drafts.{steering, fields_to, values_wanted};
-ghost use Rattle.draft.specs.Headers.{with_fields, with_header};
+ghost use Rattle.std.specs.Prelude.{◌≡◌, ◌≤◌, length};
+ghost use Rattle.format.specs.Header.{header_end};
+ghost use Rattle.draft.specs.Drafts.{begin_filling};
+ghost use Rattle.draft.specs.steps.Headers.{with_begun};
 
 use crate::start::Start;
 use buffers::write_word;
-use format::header_end;
-use headers::{is_steering, level_of, write_field, write_following};
+use format::{Field, header_end};
+use headers::{Filling, fill_fields, write_following};
 
-impl Start {
-    /// What the fields that steer the layout are given.
-    fn steering(self, number: usize) -> u32
-        ensures { result ≡ steering self number }
-    {
-        match number {
-            2 => self.kind as u32,
-            11 => self.bins,
-            12 => self.ranges,
-            _ => 3,
-        }
+impl Filling for Start {
+    ghost filling = { begin_filling };
+
+    fn has(&self, field: Field) -> bool {
+        field.level() <= self.version as usize
     }
-}
 
-/// Writes the fields of a version: those that steer the layout, and the values in order into the others.
-fn put_fields(buffer: &mut [u8], start: Start, values: &[u32])
-    requires from { 4 ≤ start.version }
-    requires to { start.version ≤ 6 }
-    requires room { header_end start.version ≤ length buffer.old }
-    requires count { length values.now ≡ values_wanted start.version }
-    ensures { buffer.new ≡ with_fields buffer.old start values.now }
-{
-    let mut used = 0;
-    for number in 1..21 {
-        if level_of(number) > start.version as usize {
-            continue;
-        }
-        if is_steering(number) {
-            let _ = write_field(buffer, number, start.steering(number));
-        } else {
-            let _ = write_field(buffer, number, values[used]);
-            used += 1;
+    fn given(&self, field: Field) -> Option<u32> {
+        match field.number() {
+            2 => Some(self.kind as u32),
+            11 => Some(self.bins),
+            12 => Some(self.ranges),
+            19 => Some(3),
+            _ => None,
         }
     }
 }
@@ -52,10 +32,9 @@ pub(crate) fn put_header(buffer: &mut [u8], start: Start, values: &[u32])
     requires from { 4 ≤ start.version }
     requires to { start.version ≤ 6 }
     requires room { header_end start.version ≤ length buffer.old }
-    requires count { length values.now ≡ values_wanted start.version }
-    ensures { buffer.new ≡ with_header buffer.old start values.now }
+    ensures { buffer.new ≡ with_begun buffer.old start values.now }
 {
     let _ = write_word(buffer, 0, start.version);
-    put_fields(buffer, start, values);
+    fill_fields(buffer, &start, values);
     let _ = write_following(buffer, start.version, header_end(start.version), 0);
 }

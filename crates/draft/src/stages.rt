@@ -1,10 +1,12 @@
 //! The stages of a draft, and what each knows: numbers alone.
-ghost use Rattle.std.specs.Prelude.{◌≡◌, ◌+◌, ◌≤◌, length, IfOk};
+ghost use Rattle.std.specs.Prelude.{◌≡◌, ◌+◌, ◌*◌, ◌≤◌, length, IfOk};
 ghost use Rattle.format.specs.Header.{header_end};
-ghost use Rattle.editor.specs.Calls.{capacity};
-ghost use Rattle.draft.specs.Drafts.{room};
+ghost use Rattle.format.specs.Sizes.{most_ranges, most_bins};
+ghost use Rattle.format.specs.InBuffer.{most_bytes, capacity, within_capacity};
+ghost use Rattle.kinds.specs.Kind.{most_written};
 
 use faults::{Fault, Refusal};
+use format::capacity;
 
 /// What a draft knows of its file: numbers alone.
 #[derive(Clone, Copy)]
@@ -17,17 +19,19 @@ pub(crate) struct Draft {
     pub(crate) cell: usize,
     /// How many bytes are written so far.
     pub(crate) size: usize,
-    ghost sized: { (4 ≤ version) × (version ≤ 6) × (cells ≤ 8192) × (cell ≤ 1310720) × (header_end version ≤ size) × (size ≤ 1073741824) },
+    ghost version_known: { (4 ≤ version) × (version ≤ 6) },
+    ghost cells_known: { (cells ≤ most_ranges) × (cell ≤ most_bins * 40) },
+    ghost size_known: { (header_end version ≤ size) × (size ≤ most_bytes) },
 }
 
-/// A draft that takes blocks. Each call that writes is handed the buffer. It is used up by turning it to its cells or giving it up, and
-/// cannot be let go.
+/// A draft that takes blocks. Each call that writes is handed the buffer. It is used up by turning
+/// it to its cells or giving it up, and cannot be let go.
 pub struct BlockStage {
     pub(crate) draft: Draft,
 }
 
-/// A draft whose blocks are ended, and which takes cells. Each call that writes is handed the buffer. It is used up by closing it or giving
-/// it up, and cannot be let go.
+/// A draft whose blocks are ended, and which takes cells. Each call that writes is handed the
+/// buffer. It is used up by closing it or giving it up, and cannot be let go.
 pub struct CellStage {
     pub(crate) draft: Draft,
     pub(crate) laid: usize,
@@ -35,14 +39,16 @@ pub struct CellStage {
 }
 
 impl Draft {
-    /// Refuses 32, with the bytes that the draft would have, where so many more would exceed the capacity.
+    /// Refuses 32, with the bytes that the draft would have, where so many more would exceed the
+    /// capacity.
     pub(crate) fn check_room(self, buffer: &[u8], added: usize) -> Result<(), Fault>
-        requires { added ≤ 9223372036854775816 }
-        ensures refuses { result ≡ room (capacity buffer.now) (self.size + added) }
-        ensures inside { IfOk result (λ _. (self.size + added ≤ length buffer.now) × (self.size + added ≤ 1073741824)) }
+        requires { added ≤ 8 + most_written }
+        ensures refuses { result ≡ within_capacity (capacity buffer.now) (self.size + added) }
+        ensures inside { IfOk result (λ _. (self.size + added ≤ length buffer.now)
+            × (self.size + added ≤ most_bytes)) }
     {
         let size = self.size + added;
-        if size > buffer.len().min(1073741824) {
+        if size > capacity(buffer) {
             return Err(Fault::at(Refusal::Capacity, size));
         }
         Ok(())
@@ -51,8 +57,11 @@ impl Draft {
     /// The same with so many bytes written.
     pub(crate) fn grown(self, size: usize) -> Draft
         requires from { self.size ≤ size }
-        requires to { size ≤ 1073741824 }
-        ensures { (result.version ≡ self.version) × (result.cells ≡ self.cells) × (result.cell ≡ self.cell) × (result.size ≡ size) }
+        requires to { size ≤ most_bytes }
+        ensures version { result.version ≡ self.version }
+        ensures cells { result.cells ≡ self.cells }
+        ensures cell { result.cell ≡ self.cell }
+        ensures size { result.size ≡ size }
     {
         let Draft {
             version,

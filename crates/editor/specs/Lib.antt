@@ -1,8 +1,7 @@
 pub mod Blocks
 pub mod Edits
 pub mod Calls
-pub mod Patches
-pub mod Raising
+pub mod steps
 pub mod Ledger
 pub mod Law
 pub mod Amending

@@ -1,16 +1,19 @@
-//! A client of the working file: a whole amendment, whose contract is said in the ledger's words alone.
+//! A client of the working file: a whole amendment, whose contract is said in the ledger's words
+//! alone.
 ghost use Rattle.std.specs.Prelude.{◌≡◌};
-ghost use Rattle.editor.specs.Amending.{amended};
-ghost use Rattle.editor.specs.Calls.{state, load, edit};
+ghost use Rattle.kinds.specs.Kind.{payload};
+ghost use Rattle.editor.specs.Amending.{amended_ledger};
+ghost use Rattle.editor.specs.Calls.{work_state, load, edit};
 ghost use Rattle.editor.specs.Edits.{set, store, add, carry, lengthen, replace, remove, raise};
-ghost use Rattle.editor.specs.Ledger.{begun};
-ghost use Rattle.editor.specs.Law.{Told, called};
+ghost use Rattle.editor.specs.Ledger.{begun_ledger};
+ghost use Rattle.editor.specs.Law.{ReadsAs, called};
 
 use crate::working::WorkingFile;
 use faults::Fault;
 use kinds::Kind;
 
-/// What is to be done with a working file, beside the records: one load, and each of the eight edits once.
+/// What is to be done with a working file, beside the records: one load, and each of the eight
+/// edits once.
 #[derive(Clone, Copy)]
 pub struct Amendment<'b> {
     /// The bytes that are loaded as the file.
@@ -45,7 +48,8 @@ pub struct Amendment<'b> {
     pub less: usize,
 }
 
-/// What came of it: how many bytes the file has then, 0 if there is none, and what each call answered.
+/// What came of it: how many bytes the file has then, 0 if there is none, and what each call
+/// answered.
 #[derive(Drop)]
 pub struct Amended {
     /// How many bytes the file has.
@@ -70,9 +74,10 @@ pub struct Amended {
     pub removed: Result<(), Fault>,
 }
 
-/// Amends the file in the first `size` bytes of the buffer, or the one that is loaded over it: a block of the kind A gets the
-/// first record, and one of the kind B the second. Each call is made, whatever those before it answered; what is read of the
-/// buffer afterwards is what the ledger of the calls tells.
+/// Amends the file in the first `size` bytes of the buffer, or the one that is loaded over it: a
+/// block of the kind A gets the first record, and one of the kind B the second. Each call is made,
+/// whatever those before it answered; what is read of the buffer afterwards is what the ledger of
+/// the calls tells.
 pub fn amend<A: Kind, B: Kind>(
     buffer: &mut [u8],
     size: usize,
@@ -80,16 +85,16 @@ pub fn amend<A: Kind, B: Kind>(
     first: A::Record,
     second: B::Record,
 ) -> Amended
-    ensures { Told (amended (begun buffer.old size)
+    ensures { ReadsAs (amended_ledger (begun_ledger buffer.old size)
         (called (load by.now.file.now) result.loaded)
         (called (edit (raise by.now.values.now)) result.raised)
         (called (edit (set by.now.field by.now.value)) result.changed)
         (called (edit (store by.now.cell by.now.row by.now.bytes.now)) result.stored)
-        (called (edit (add A.kind (A.numbers first) by.now.added.now)) result.added)
+        (called (edit (add (payload A.kind (A.numbers first) by.now.added.now))) result.added)
         (called (edit (carry by.now.key by.now.body.now)) result.carried)
         (called (edit (lengthen by.now.longer by.now.more.now)) result.lengthened)
-        (called (edit (replace by.now.other B.kind (B.numbers second) by.now.replaced.now)) result.replaced)
-        (called (edit (remove by.now.less)) result.removed)) (state buffer.new result.size) }
+        (called (edit (replace by.now.other (payload B.kind (B.numbers second) by.now.replaced.now))) result.replaced)
+        (called (edit (remove by.now.less)) result.removed)) (work_state buffer.new result.size) }
 {
     let mut file = WorkingFile::make(buffer, size);
     let loaded = file.load(by.file);

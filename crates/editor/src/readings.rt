@@ -1,8 +1,10 @@
-//! What is read of a working file: every question of a judged file, asked of the bytes that the file has now.
+//! What is read of a working file: every question of a judged file, asked of the bytes that the
+//! file has now.
 ghost use Rattle.std.specs.Prelude.{◌≡◌, length};
 ghost use Rattle.editor.specs.Calls.{view, file};
+ghost use Rattle.reader.specs.Judged.{judged_bytes};
 ghost use Rattle.reader.specs.Laws.{ReadFile};
-ghost use Rattle.reader.specs.Answers.{version_answer, start_answer, field_answer, row_answer, numbers_answer, numbers_list, block_answer, table_answer, table_list, shown, look_answer};
+ghost use Rattle.reader.specs.Answers.{version_answer, start_answer, field_answer, row_answer, numbers_answer, numbers_list, block_answer, table_answer, table_list, reading_sight, look_answer};
 
 use crate::working::{WorkingFile, file_in};
 use faults::Fault;
@@ -12,7 +14,7 @@ use reader::{Entry, JudgedFile, RowAt};
 impl<'a> WorkingFile<'a> {
     /// The file, judged as it is now.
     pub(crate) fn judged(&self) -> JudgedFile<'_>
-        ensures bytes { result.bytes.now ≡ file (view self.now) }
+        ensures bytes { judged_bytes result ≡ file (view self.now) }
         ensures read { ReadFile (file (view self.now)) }
     {
         JudgedFile::of(self.bytes())
@@ -55,8 +57,10 @@ impl<'a> WorkingFile<'a> {
 
     /// Copies a row's 32-bit patterns to the start of the list, the rest of which stays.
     pub fn numbers(&self, at: RowAt, list: &mut [u32]) -> Result<(), Fault>
-        ensures answer { result ≡ numbers_answer (file (view self.now)) at.level at.cell at.row (length list.old) }
-        ensures list { list.new ≡ numbers_list (file (view self.now)) at.level at.cell at.row list.old }
+        ensures answer { result
+            ≡ numbers_answer (file (view self.now)) at.level at.cell at.row (length list.old) }
+        ensures list { list.new
+            ≡ numbers_list (file (view self.now)) at.level at.cell at.row list.old }
     {
         self.judged().numbers(at, list)
     }
@@ -70,7 +74,8 @@ impl<'a> WorkingFile<'a> {
 
     /// A block read as a kind.
     pub fn look<K: Kind>(&self, number: usize) -> Result<Reading<K::Record>, Fault>
-        ensures { shown K.numbers result ≡ look_answer K.kind (file (view self.now)) number }
+        ensures { reading_sight K.numbers result
+            ≡ look_answer K.kind (file (view self.now)) number }
     {
         self.judged().look::<K>(number)
     }

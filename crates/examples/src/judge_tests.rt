@@ -1,6 +1,6 @@
 //! The ten checks of judging, each at both sides of its edge: what the tests share.
 mod edges;
-mod kinds;
+mod quality;
 mod sizes;
 
 use crate::files::{EXTENTS, put};

@@ -3,7 +3,7 @@ use Rattle.std.proofs.Common.{◌≡◌, ℕ, zero, suc, ◌+◌, ◌-◌, ◌�
 use Rattle.std.proofs.lemmas.List.FromFn.{length-map-range_with_len}
 use Rattle.std.proofs.lemmas.List.{take_at, drop_at, drop-drop, length-append, length-take-le, map-append}
 use Rattle.std.specs.List.{range_with_len}
-use Rattle.reader.specs.Answers.{filled}
+use Rattle.reader.specs.Answers.{filled_list}
 use Rattle.exports.specs.Rows.{copied}
 
 -- two stretches of numbers in a row
@@ -50,7 +50,7 @@ pub written_more : (f : ℕ → ℕ) (a m e : ℕ) (old now next : List ℕ) →
 written_more f a m e old now next this that from to inside = that ∙ ap (copied f m e) this ∙ both_written f a m e old from to inside
 
 -- all copied, from the first place on
-pub written_all : (f : ℕ → ℕ) (n : ℕ) (old : List ℕ) → copied f 0 n old ≡ filled (map f (range_with_len 0 n)) old
+pub written_all : (f : ℕ → ℕ) (n : ℕ) (old : List ℕ) → copied f 0 n old ≡ filled_list (map f (range_with_len 0 n)) old
 written_all f n old =
     let all : n - 0 ≡ n = omega arith in
     ap (λ (x : ℕ). map f (range_with_len 0 x) ++ drop n old) all

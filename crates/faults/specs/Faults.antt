@@ -1,5 +1,5 @@
 -- A fault's four parts: refusal, layer, block and place.
-use Rattle.std.specs.Prelude.{ℕ, cond, List, [], ◌++◌, codes, decimal, nat_lt}
+use Rattle.std.specs.Prelude.{ℕ, List, [], ◌++◌, codes, decimal, nat_lt, if◌then◌else◌}
 use Rattle.faults.specs.declared.fault.Fault.{Fault}
 use Rattle.faults.specs.declared.refusal.Layer.{Layer}
 use Rattle.faults.specs.declared.refusal.Refusal.{Refusal}
@@ -15,11 +15,12 @@ fault r place = in_block r 0 place
 
 -- the block of a fault as it is printed, if it has one
 abbrev pub block_text : ℕ → List ℕ
-block_text k = cond (nat_lt 0 k) (codes ", block " ++ decimal k) []
+block_text k = if nat_lt 0 k then codes ", block " ++ decimal k else []
 
--- the place of a fault as it is printed; at the layer call, number 5, a place is not one of the file
+-- the place of a fault as it is printed; at the layer call, number 5, a place is not one of the
+-- file
 abbrev pub place_text : Layer → ℕ → List ℕ
-place_text l place = cond (nat_lt (layer_number l) 5) (codes ", place " ++ decimal place) []
+place_text l place = if nat_lt (layer_number l) 5 then codes ", place " ++ decimal place else []
 
 -- a fault as it is printed: refused 9: block head cut (section), block 2, place 116
 abbrev pub fault_text : Fault → List ℕ

@@ -42,8 +42,8 @@ number_of CellCount = 38
 abbrev pub Alone : Refusal → Type 0
 Alone r = (q : Refusal) → number_of q ≡ number_of r → q ≡ r
 
--- the layer at which judging and the kinds of block refuse: the file by 1, 2 and 11, the header by 3 to 8, the
--- section by 9 and 10, a block by 12 to 14, and a call by all others
+-- the layer at which judging and the kinds of block refuse: the file by 1, 2 and 11, the header by
+-- 3 to 8, the section by 9 and 10, a block by 12 to 14, and a call by all others
 abbrev pub layer_of : Refusal → Layer
 layer_of TooFewBytes = File
 layer_of Version = File

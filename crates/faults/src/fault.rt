@@ -7,7 +7,6 @@ use std::error::Error;
 use std::fmt;
 
 /// Why a call refused, and where.
-// Four parts and a 0 for no block, as the definitions have them: who is refused is told four numbers, whatever they speak of.
 #[derive(Clone, Copy, PartialEq, Eq, Debug)]
 pub struct Fault {
     /// The refusal, which has the number.

@@ -1,4 +1,5 @@
--- The section of blocks: blocks that were written pass and are read, and blocks that pass were written.
+-- The section of blocks: blocks that were written pass and are read, and blocks that pass were
+-- written.
 use Rattle.std.proofs.Common.{◌≡◌, ℕ, zero, suc, ◌+◌, ◌-◌, ◌<◌, ◌≤◌, true, List, [], ◌∷◌, ◌++◌, length, take, drop, is_ok, Ok, refl, ◌∙◌, ⊎_elim, append_assoc, add_assoc, arith}
 use Rattle.std.proofs.ByRecursion.{All-take, All-drop}
 use Rattle.std.proofs.lemmas.List.{length-append, length-take-le, length-drop}
@@ -7,14 +8,14 @@ use Rattle.std.proofs.lemmas.Bool.Decides.{nat_tests}
 use Rattle.std.specs.List.{AllByRecursion}
 use Rattle.buffers.proofs.Encoded.{word_lt, reads, goes_on, writes}
 use Rattle.buffers.specs.Words.{four, word32, be32, Bytes}
-use Rattle.format.specs.Content.{Block, section, Writable, blocks_at}
-use Rattle.format.specs.Section.{walk}
+use Rattle.format.specs.Content.{Block, section, IsWritable, blocks_at}
+use Rattle.format.specs.Section.{walk_blocks}
 use Rattle.format.proofs.Pieces.{piece, take_there, drop_there}
 
 -- the blocks that were written at a place pass, and are read there
-pub read_blocks : (ks : List Block) (b : List ℕ) (end steps at n : ℕ) (rest : List ℕ) → AllByRecursion Writable ks → drop at b ≡ section ks ++ rest
+pub read_blocks : (ks : List Block) (b : List ℕ) (end steps at n : ℕ) (rest : List ℕ) → AllByRecursion IsWritable ks → drop at b ≡ section ks ++ rest
     → end ≡ at + length (section ks) → end ≤ at + steps
-    → (is_ok (walk b end steps at n) ≡ true) × (blocks_at b end steps at ≡ ks) × (drop end b ≡ rest)
+    → (is_ok (walk_blocks b end steps at n) ≡ true) × (blocks_at b end steps at ≡ ks) × (drop end b ≡ rest)
 read_blocks [] b end zero at n rest h e l m = (refl, refl, let q : end ≡ at = omega arith in rw q e)
 read_blocks [] b end (suc steps) at n rest h e l m =
     let q : end ≡ at = omega arith in
@@ -46,8 +47,8 @@ read_blocks (k ∷ ks) b end (suc steps) at n rest h e l m =
     (rw (t0, t1, size_is, t2) r0, rw (t0, size_is, key, body, r1), r.2)
 
 -- blocks that pass are the writing of what is read
-pub written_blocks : (b : List ℕ) (end steps at n : ℕ) → Bytes b → end ≤ length b → at ≤ end → end ≤ at + steps → is_ok (walk b end steps at n) ≡ true
-    → (section (blocks_at b end steps at) ++ drop end b ≡ drop at b) × AllByRecursion Writable (blocks_at b end steps at)
+pub written_blocks : (b : List ℕ) (end steps at n : ℕ) → Bytes b → end ≤ length b → at ≤ end → end ≤ at + steps → is_ok (walk_blocks b end steps at n) ≡ true
+    → (section (blocks_at b end steps at) ++ drop end b ≡ drop at b) × AllByRecursion IsWritable (blocks_at b end steps at)
 written_blocks b end zero at n h l a m e = let q : end ≡ at = omega arith in (rw q, tt)
 written_blocks b end (suc steps) at n h l a m e =
     ⊎_elim
@@ -56,7 +57,7 @@ written_blocks b end (suc steps) at n h l a m e =
     let t = lt-leb end at p in
     let room : at + 8 ≤ end = grind (arith, nat_tests) in
     let a' : at + 8 + z ≤ end = grind (arith, nat_tests) in
-    let e' : is_ok (walk b end steps (at + 8 + z) (n + 1)) ≡ true = grind (arith, nat_tests) in
+    let e' : is_ok (walk_blocks b end steps (at + 8 + z) (n + 1)) ≡ true = grind (arith, nat_tests) in
     let r = written_blocks b end steps (at + 8 + z) (n + 1) h l a' (omega arith) e' in
     let key = take 4 (drop at b) in
     let body = take z (drop (at + 8) b) in
@@ -66,7 +67,7 @@ written_blocks b end (suc steps) at n h l a m e =
     let s3 : body ++ drop (at + 8 + z) b ≡ drop (at + 8) b = piece b (at + 8) z in
     let s2 : be32 z ++ drop (at + 8) b ≡ drop (at + 4) b = rw (add_assoc at 4 4) at (writes four b (at + 4) (omega arith) h) in
     let s1 : key ++ drop (at + 4) b ≡ drop at b = piece b at 4 in
-    let fits : Writable (record { key = key; body = body }) =
+    let fits : IsWritable (record { key = key; body = body }) =
     record {
       key_size = key-long;
       key_bytes = All-take (λ x. x < 256) 4 _ (All-drop (λ x. x < 256) at b h);
@@ -81,14 +82,14 @@ written_blocks b end (suc steps) at n h l a m e =
     (cases_lt at end)
 
 -- a walk that ends counts the blocks that are read
-pub walked_count : (b : List ℕ) (end steps at n m : ℕ) → walk b end steps at n ≡ Ok m → m ≡ n + length (blocks_at b end steps at)
+pub walked_count : (b : List ℕ) (end steps at n m : ℕ) → walk_blocks b end steps at n ≡ Ok m → m ≡ n + length (blocks_at b end steps at)
 walked_count b end zero at n m e = let same : n ≡ m = cc in omega arith
 walked_count b end (suc steps) at n m e =
     ⊎_elim
     (λ (p : at < end).
     let t = lt-leb end at p in
     let z = word32 b (at + 4) in
-    let e' : walk b end steps (at + 8 + z) (n + 1) ≡ Ok m = grind (arith, nat_tests) in
+    let e' : walk_blocks b end steps (at + 8 + z) (n + 1) ≡ Ok m = grind (arith, nat_tests) in
     let r = walked_count b end steps (at + 8 + z) (n + 1) m e' in
     rw t (omega arith))
     (λ (p : end ≤ at).

@@ -8,3 +8,5 @@ pub mod Rules
 pub mod Trip
 pub mod Spots
 pub mod Writing
+pub mod Tables
+pub mod Heads

@@ -1,10 +1,10 @@
 -- The header as a list of slots: what was packed is unpacked, and what is unpacked was packed.
-use Rattle.std.proofs.Common.{◌≡◌, ℕ, ◌+◌, ◌-◌, ◌^◌, ◌<◌, ◌≤◌, Bool, true, false, cond, List, [], ◌∷◌, ◌++◌, length, drop, refl, ap, ◌∙◌, ⊎_elim, append_assoc, arith}
+use Rattle.std.proofs.Common.{◌≡◌, ℕ, zero, suc, ◌+◌, ◌-◌, ◌^◌, ◌<◌, ◌≤◌, Bool, true, false, cond, List, [], ◌∷◌, ◌++◌, length, drop, refl, ap, ◌∙◌, ⊎_elim, append_assoc, arith}
 use Rattle.std.proofs.lemmas.Bool.{cases_lt, le-ltb, lt-ltb}
 use Rattle.buffers.proofs.Encoded.{word_lt, reads, goes_on, writes}
 use Rattle.buffers.specs.Words.{size, limit, word, word16, word32, be, Bytes}
-use Rattle.format.specs.Content.{Slot, own, follows, has, slots, pack, unpack, Fit}
-use Rattle.format.specs.Header.{header_end}
+use Rattle.format.specs.Content.{Slot, own, follows, from_level, slots, pack, unpack, IsFitting}
+use Rattle.format.specs.Header.{the_extent, extent_end, section_size_place, header_end}
 
 -- where slots that begin at `at` end
 abbrev pub end : List Slot → ℕ → ℕ
@@ -30,7 +30,7 @@ end_ge (own w ∷ ss) at = omega (arith, end_ge ss (at + size w))
 end_ge (follows w x ∷ ss) at = omega (arith, end_ge ss (at + size w))
 
 -- what was packed at a place is unpacked there
-pub read_back : (ss : List Slot) (fs b : List ℕ) (at : ℕ) (rest : List ℕ) → drop at b ≡ pack ss fs ++ rest → Fit ss fs → Within ss
+pub read_back : (ss : List Slot) (fs b : List ℕ) (at : ℕ) (rest : List ℕ) → drop at b ≡ pack ss fs ++ rest → IsFitting ss fs → Within ss
     → (unpack ss b at ≡ fs) × Known ss b at × (drop (end ss at) b ≡ rest)
 read_back [] [] b at rest e h k = (refl, tt, e)
 read_back [] (f ∷ fs) b at rest e h k = absurd h
@@ -60,7 +60,7 @@ written_back (follows w x ∷ ss) b at k l h =
     ∙ rw (← k.0) (writes w b at (omega (arith, end_ge ss (at + size w))) h)
 
 -- what is unpacked fits
-pub fits : (ss : List Slot) (b : List ℕ) (at : ℕ) → Bytes b → Fit ss (unpack ss b at)
+pub fits : (ss : List Slot) (b : List ℕ) (at : ℕ) → Bytes b → IsFitting ss (unpack ss b at)
 fits [] b at h = tt
 fits (own w ∷ ss) b at h = (word_lt w b at h, fits ss b (at + size w) h)
 fits (follows w x ∷ ss) b at h = fits ss b (at + size w) h
@@ -84,32 +84,28 @@ unpack-slots v d s b = simp unpack_has
 -- the words that follow from the rest of the content, at their places
 pub record Words (b : List ℕ) (v d s : ℕ) : Type 0 where
   pub version : word16 b 0 ≡ v
-  pub extent_1 : word32 b 6 ≡ d - 10
-  pub extent_2 : 2 ≤ v → word32 b 12 ≡ d - 16
-  pub extent_3 : 3 ≤ v → word32 b 20 ≡ d - 24
-  pub extent_4 : 4 ≤ v → word32 b 68 ≡ d - 72
-  pub extent_5 : 5 ≤ v → word32 b 96 ≡ d - 100
-  pub section : 6 ≤ v → word32 b 100 ≡ s
+  pub extent_at : (i : ℕ) → 1 ≤ i → i ≤ 5 → i ≤ v → word32 b (the_extent i).place ≡ d - extent_end (the_extent i)
+  pub section : 6 ≤ v → word32 b section_size_place ≡ s
 
-known_has : (v i : ℕ) (ss : List Slot) (b : List ℕ) (at : ℕ) → (i ≤ v → Known ss b at) → Known (has i v ss) b at
+known_has : (v i : ℕ) (ss : List Slot) (b : List ℕ) (at : ℕ) → (i ≤ v → Known ss b at) → Known (from_level i v ss) b at
 known_has v i ss b at h = ⊎_elim (λ (l : v < i). rw (lt-ltb v i l) tt) (λ (l : i ≤ v). rw (le-ltb v i l) (h l)) (cases_lt v i)
 
-has_known : (v i : ℕ) (ss : List Slot) (b : List ℕ) (at : ℕ) → Known (has i v ss) b at → i ≤ v → Known ss b at
+has_known : (v i : ℕ) (ss : List Slot) (b : List ℕ) (at : ℕ) → Known (from_level i v ss) b at → i ≤ v → Known ss b at
 has_known v i ss b at k l = rw (le-ltb v i l) at k
 
-pub known_words : (b : List ℕ) (v d s : ℕ) → Words b v d s → Known (slots v d s) b 0
-known_words b v d s w = (
+pub known_words : (b : List ℕ) (v d s : ℕ) → 1 ≤ v → Words b v d s → Known (slots v d s) b 0
+known_words b v d s one w = (
   w.version,
   (
-    w.extent_1,
+    w.extent_at 1 (omega arith) (omega arith) one,
     known_has v 2 _ b 10 (λ l. (
-      w.extent_2 l,
+      w.extent_at 2 (omega arith) (omega arith) l,
       known_has v 3 _ b 16 (λ l. (
-        w.extent_3 l,
+        w.extent_at 3 (omega arith) (omega arith) l,
         known_has v 4 _ b 24 (λ l. (
-          w.extent_4 l,
+          w.extent_at 4 (omega arith) (omega arith) l,
           known_has v 5 _ b 72 (λ l. (
-            w.extent_5 l,
+            w.extent_at 5 (omega arith) (omega arith) l,
             known_has v 6 _ b 100 (λ l. (w.section l, tt)),
           )),
         )),
@@ -117,6 +113,16 @@ known_words b v d s w = (
     )),
   ),
 )
+
+-- the numbers of the extents
+by_number : (P : ℕ → Type 0) → P 1 → P 2 → P 3 → P 4 → P 5 → (i : ℕ) → 1 ≤ i → i ≤ 5 → P i
+by_number P one two three four five zero from to = absurd (omega arith)
+by_number P one two three four five (suc zero) from to = one
+by_number P one two three four five (suc (suc zero)) from to = two
+by_number P one two three four five (suc (suc (suc zero))) from to = three
+by_number P one two three four five (suc (suc (suc (suc zero)))) from to = four
+by_number P one two three four five (suc (suc (suc (suc (suc zero))))) from to = five
+by_number P one two three four five (suc (suc (suc (suc (suc (suc i)))))) from to = absurd (omega arith)
 
 pub words_known : (b : List ℕ) (v d s : ℕ) → Known (slots v d s) b 0 → Words b v d s
 words_known b v d s k =
@@ -127,15 +133,12 @@ words_known b v d s k =
     let k6 = λ (l : 6 ≤ v). has_known v 6 _ b 100 (k5 (omega arith)).1 l in
     record {
       version = k.0;
-      extent_1 = k.1.0;
-      extent_2 = λ l. (k2 l).0;
-      extent_3 = λ l. (k3 l).0;
-      extent_4 = λ l. (k4 l).0;
-      extent_5 = λ l. (k5 l).0;
+      extent_at = by_number (λ i. i ≤ v → word32 b (the_extent i).place ≡ d - extent_end (the_extent i))
+          (λ l. k.1.0) (λ l. (k2 l).0) (λ l. (k3 l).0) (λ l. (k4 l).0) (λ l. (k5 l).0);
       section = λ l. (k6 l).0;
     }
 
-within_has : (v i : ℕ) (ss : List Slot) → Within ss → Within (has i v ss)
+within_has : (v i : ℕ) (ss : List Slot) → Within ss → Within (from_level i v ss)
 within_has v i ss h = ⊎_elim (λ (l : v < i). rw (lt-ltb v i l) tt) (λ (l : i ≤ v). rw (le-ltb v i l) h) (cases_lt v i)
 
 -- the words that follow fit, where the version is small and the data begin within reach

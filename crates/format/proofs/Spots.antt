@@ -5,7 +5,7 @@ use Rattle.std.proofs.lemmas.Bool.{cases_lt, le-ltb, lt-ltb}
 use Rattle.buffers.proofs.Encoded.{be-length}
 use Rattle.buffers.specs.Moves.{written}
 use Rattle.buffers.specs.Words.{Width, four, size, word, be}
-use Rattle.format.specs.Content.{Slot, own, follows, slots, pack, unpack, Fit}
+use Rattle.format.specs.Content.{Slot, own, follows, slots, pack, unpack, IsFitting}
 use Rattle.format.specs.Header.{Field, fields}
 use Rattle.format.proofs.Slots.{end}
 
@@ -26,11 +26,11 @@ owned (own w ∷ ss) at = (at, w) ∷ owned ss (at + size w)
 owned (follows w x ∷ ss) at = owned ss (at + size w)
 
 -- how many fields a file of that version has
-abbrev pub field_count : ℕ → ℕ
-field_count v = cond (ltb v 2) 1 (cond (ltb v 3) 2 (cond (ltb v 4) 3 (cond (ltb v 5) 14 20)))
+abbrev pub fields_to : ℕ → ℕ
+fields_to v = cond (ltb v 2) 1 (cond (ltb v 3) 2 (cond (ltb v 4) 3 (cond (ltb v 5) 14 20)))
 
 -- the spots of a header's fields are those of the table
-pub owned_slots : (v d s : ℕ) → owned (slots v d s) 0 ≡ map spot (take (field_count v) fields)
+pub owned_slots : (v d s : ℕ) → owned (slots v d s) 0 ≡ map spot (take (fields_to v) fields)
 owned_slots v d s =
     ⊎_elim (λ (a : v < 2). rw (lt-ltb v 2 a))
     (λ (a : 2 ≤ v). ⊎_elim (λ (b : v < 3). rw (le-ltb v 2 a, lt-ltb v 3 b))
@@ -41,7 +41,7 @@ owned_slots v d s =
     (cases_lt v 6)) (cases_lt v 5)) (cases_lt v 4)) (cases_lt v 3)) (cases_lt v 2)
 
 -- there is a spot for each field
-pub owned_length : (ss : List Slot) (fs : List ℕ) (at : ℕ) → Fit ss fs → length fs ≡ length (owned ss at)
+pub owned_length : (ss : List Slot) (fs : List ℕ) (at : ℕ) → IsFitting ss fs → length fs ≡ length (owned ss at)
 owned_length [] [] at h = refl
 owned_length [] (f ∷ fs) at h = absurd h
 owned_length (own w ∷ ss) [] at h = absurd h
@@ -65,7 +65,7 @@ written_mid front old new rest at p q =
     rw (a, b)
 
 -- a field that is set is packed anew at its spot alone
-pub pack_set : (ss : List Slot) (fs : List ℕ) (i x : ℕ) (front rest : List ℕ) (at : ℕ) → length front ≡ at → Fit ss fs → i < length fs
+pub pack_set : (ss : List Slot) (fs : List ℕ) (i x : ℕ) (front rest : List ℕ) (at : ℕ) → length front ≡ at → IsFitting ss fs → i < length fs
     → front ++ (pack ss (set fs i x) ++ rest)
     ≡ written (front ++ (pack ss fs ++ rest)) (get_or (owned ss at) i nowhere).0 (be (get_or (owned ss at) i nowhere).1 x)
 pack_set [] [] i x front rest at p h l = absurd (omega arith)
@@ -85,7 +85,7 @@ pack_set (follows w y ∷ ss) fs i x front rest at p h l =
     simp append_assoc (simp append_assoc at r)
 
 -- a word that follows from the rest, with another value, is packed anew at its place alone
-pub pack_put : (pre post : List Slot) (w : Width) (x y : ℕ) (fs front : List ℕ) (at : ℕ) → length front ≡ at → Fit (pre ++ (follows w x ∷ post)) fs
+pub pack_put : (pre post : List Slot) (w : Width) (x y : ℕ) (fs front : List ℕ) (at : ℕ) → length front ≡ at → IsFitting (pre ++ (follows w x ∷ post)) fs
     → front ++ pack (pre ++ (follows w y ∷ post)) fs ≡ written (front ++ pack (pre ++ (follows w x ∷ post)) fs) (end pre at) (be w y)
 pack_put [] post w x y fs front at p h =
     let same : length (be w y) ≡ length (be w x) = be-length w y ∙ sym (be-length w x) in

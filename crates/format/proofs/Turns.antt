@@ -1,4 +1,5 @@
--- Checks made one after the other over a table: the first that fails ends the turns, and behind one that passes the rest decides.
+-- Checks made one after the other over a table: the first that fails ends the turns, and behind one
+-- that passes the rest decides.
 use Rattle.std.proofs.Common.{◌≡◌, ℕ, suc, ◌+◌, ◌<◌, List, get_or, length, drop, map, Ok, Err, sym, ap, ◌∙◌, arith}
 use Rattle.std.proofs.Math.Seq.{drop-cons}
 use Rattle.std.proofs.lemmas.List.{get_or-map, length-map}

@@ -41,11 +41,11 @@ passed (Ok x) = Ok tt
 passed (Err f) = Err f
 
 -- every check passes
-abbrev pub Pass : List Check → Type 0
-Pass cs = (j : ℕ) → j < length cs → slice_index_or cs j (Ok tt) ≡ Ok tt
+abbrev pub IsPassed : List Check → Type 0
+IsPassed cs = (j : ℕ) → j < length cs → slice_index_or cs j (Ok tt) ≡ Ok tt
 
 -- one of the checks answers f, and every check before it passes
-pub record FirstFails (cs : List Check) (f : Fault) : Type 0 where
+pub record IsFirstFault (cs : List Check) (f : Fault) : Type 0 where
   pub which : ℕ
   pub within : which < length cs
   pub before : (j : ℕ) → j < which → slice_index_or cs j (Ok tt) ≡ Ok tt

@@ -1,19 +1,25 @@
 -- The content of a file, and the bytes that a content is written as.
-use Rattle.std.specs.Prelude.{◌≡◌, ℕ, zero, suc, ◌+◌, ◌-◌, ◌^◌, ◌<◌, ◌≤◌, cond, List, [], ◌∷◌, ◌++◌, length, take, drop, ◌==◌, ◌≢◌, nat_le, nat_lt, slice_index}
+use Rattle.std.specs.Prelude.{◌≡◌, ℕ, zero, suc, ◌+◌, ◌-◌, ◌^◌, ◌<◌, ◌≤◌, cond, List, [], ◌∷◌, ◌++◌, length, take, drop, ◌==◌, ◌≢◌, nat_le, nat_lt, slice_index, if◌then◌else◌}
 use Rattle.std.specs.List.{AllByRecursion}
-use Rattle.buffers.specs.Words.{Width, two, four, size, limit, word, be, word32, be32, Bytes}
+use Rattle.buffers.specs.Words.{Width, two, four, size, limit, word, be, be32, Bytes}
+use Rattle.format.specs.declared.extents.Extent.{Extent}
 use Rattle.format.specs.declared.sizes.Sizes.{Sizes}
-use Rattle.format.specs.Header.{Field, fields, version, header_end, data_start, section_size}
+use Rattle.format.specs.Header.{Field, fields, version, extents, the_extent, extent_end, header_end, data_start, section_size}
 use Rattle.format.specs.Rows.{cells_size}
-use Rattle.format.specs.Sizes.{sizes_in}
+use Rattle.format.specs.Section.{data_at, block_end}
+use Rattle.format.specs.Sizes.{most_ranges, most_bins, sizes_in}
 
 -- a block: a key of four bytes, and its data
 pub record Block : Type 0 where
   pub key : List ℕ
   pub body : List ℕ
 
--- a content: the version, the fields that it has in order, the blocks in order, the gap before the cells, the cells,
--- and the tail behind them
+-- a block with that key and those data
+abbrev pub block : List ℕ → List ℕ → Block
+block key body = record { key = key; body = body }
+
+-- a content: the version, the fields that it has in order, the blocks in order, the gap before the
+-- cells, the cells, and the tail behind them
 pub record Content : Type 0 where
   pub version : ℕ
   pub fields : List ℕ
@@ -30,25 +36,27 @@ pub data Slot : Type 0 where
 -- the fields of a level, in the order of the table
 abbrev pub fields_at : ℕ → List Field → List Slot
 fields_at i [] = []
-fields_at i (f ∷ fs) = cond (f.level == i) (own f.width ∷ fields_at i fs) (fields_at i fs)
+fields_at i (f ∷ fs) = if f.level == i then own f.width ∷ fields_at i fs else fields_at i fs
 
 -- a level's fields, its extent, and then the levels above
 abbrev pub level : ℕ → ℕ → List Slot → List Slot
 level i extent above = fields_at i fields ++ (follows four extent ∷ above)
 
 -- the levels from i on, where the version has them
-abbrev pub has : ℕ → ℕ → List Slot → List Slot
-has i v above = cond (nat_lt v i) [] above
+abbrev pub from_level : ℕ → ℕ → List Slot → List Slot
+from_level i v above = if nat_lt v i then [] else above
 
--- the header of a file of version v whose data begin at d, and whose section has s bytes: extent i is d - Ei
+-- the header of a file of version v whose data begin at d, and whose section has s bytes, from a
+-- list of extents on: level by level, each where the version has it. An extent is the way from its
+-- end to d; level 6 has S alone
+abbrev pub slots_from : ℕ → ℕ → ℕ → List Extent → List Slot
+slots_from v d s [] = follows four s ∷ []
+slots_from v d s (e ∷ es) =
+    level e.level (d - extent_end e) (from_level (e.level + 1) v (slots_from v d s es))
+
+-- the whole header
 abbrev pub slots : ℕ → ℕ → ℕ → List Slot
-slots v d s =
-    follows two v ∷ level 1 (d - 10)
-    (has 2 v (level 2 (d - 16)
-    (has 3 v (level 3 (d - 24)
-    (has 4 v (level 4 (d - 72)
-    (has 5 v (level 5 (d - 100)
-    (has 6 v (follows four s ∷ []))))))))))
+slots v d s = follows two v ∷ slots_from v d s extents
 
 -- the bytes of a header with those fields
 abbrev pub pack : List Slot → List ℕ → List ℕ
@@ -64,12 +72,12 @@ unpack (own w ∷ ss) b at = word w b at ∷ unpack ss b (at + size w)
 unpack (follows w x ∷ ss) b at = unpack ss b (at + size w)
 
 -- a value for each field, within its width
-abbrev pub Fit : List Slot → List ℕ → Type 0
-Fit [] [] = Unit {0}
-Fit [] (f ∷ fs) = ⊥
-Fit (own w ∷ ss) [] = ⊥
-Fit (own w ∷ ss) (f ∷ fs) = (f < limit w) × Fit ss fs
-Fit (follows w x ∷ ss) fs = Fit ss fs
+abbrev pub IsFitting : List Slot → List ℕ → Type 0
+IsFitting [] [] = Unit {0}
+IsFitting [] (f ∷ fs) = ⊥
+IsFitting (own w ∷ ss) [] = ⊥
+IsFitting (own w ∷ ss) (f ∷ fs) = (f < limit w) × IsFitting ss fs
+IsFitting (follows w x ∷ ss) fs = IsFitting ss fs
 
 -- the bytes of a block: its key, the size of its data, its data
 abbrev pub block_bytes : Block → List ℕ
@@ -103,29 +111,29 @@ abbrev pub content_sizes : Content → Sizes
 content_sizes c = sizes_in c.version (field_in c.fields)
 
 -- a block that can be written: four bytes of key, and data whose size fits 32 bits
-pub record Writable (k : Block) : Type 0 where
+pub record IsWritable (k : Block) : Type 0 where
   pub key_size : length k.key ≡ 4
   pub key_bytes : Bytes k.key
   pub body_size : length k.body < 2 ^ 32
   pub body_bytes : Bytes k.body
 
 -- what the rules ask of a content
-pub record Sound (c : Content) : Type 0 where
+pub record IsSound (c : Content) : Type 0 where
   -- the version is one of 1 to 32
   pub version_from : 1 ≤ c.version
   pub version_to : c.version ≤ 32
   -- there is a value for each field that the version has, within its width
-  pub fields_fit : Fit (header_slots c) c.fields
+  pub fields_fit : IsFitting (header_slots c) c.fields
   -- extent 1, a signed 32-bit number, reaches the data
-  pub reach : start c - 10 < 2 ^ 31
+  pub reach : start c - extent_end (the_extent 1) < 2 ^ 31
   -- bins, cells and channels are in range
   pub bins_from : 1 ≤ (content_sizes c).bins
-  pub bins_to : (content_sizes c).bins ≤ 32768
+  pub bins_to : (content_sizes c).bins ≤ most_bins
   pub ranges_from : 1 ≤ (content_sizes c).ranges
-  pub ranges_to : (content_sizes c).ranges ≤ 8192
+  pub ranges_to : (content_sizes c).ranges ≤ most_ranges
   pub channels : (content_sizes c).channels ≡ 3
   -- every block can be written, and there is none below version 6
-  pub blocks_fit : AllByRecursion Writable c.blocks
+  pub blocks_fit : AllByRecursion IsWritable c.blocks
   pub blocks_from_six : c.version < 6 → c.blocks ≡ []
   -- gap, cells and tail are bytes, and the cells have the size that the fields give
   pub gap_bytes : Bytes c.gap
@@ -133,13 +141,13 @@ pub record Sound (c : Content) : Type 0 where
   pub tail_bytes : Bytes c.tail
   pub cells_whole : length c.cells ≡ cells_size (content_sizes c)
 
--- the blocks of b from `at` up to `end`; each takes at least 8 bytes, so that as many steps as there are bytes suffice
+-- the blocks of b from `at` up to `end`; each takes at least 8 bytes, so that as many steps as
+-- there are bytes suffice
 abbrev pub blocks_at : List ℕ → ℕ → ℕ → ℕ → List Block
 blocks_at b end zero at = []
 blocks_at b end (suc steps) at =
     cond (nat_le end at) []
-    (record { key = take 4 (drop at b); body = take (word32 b (at + 4)) (drop (at + 8) b) }
-    ∷ blocks_at b end steps (at + 8 + word32 b (at + 4)))
+    (block (take 4 (drop at b)) (data_at b at) ∷ blocks_at b end steps (block_end b at))
 
 -- where the section ends, or the header where there is none
 abbrev pub section_end : List ℕ → ℕ → ℕ
@@ -166,11 +174,11 @@ abbrev pub content : List ℕ → Content
 content b = content_at b (version b)
 
 -- b is the writing of the sound content c, and of no other
-pub record WritingOf (b : List ℕ) (c : Content) : Type 0 where
-  pub sound : Sound c
+pub record IsOnlyWriting (b : List ℕ) (c : Content) : Type 0 where
+  pub sound : IsSound c
   pub written : write c ≡ b
-  pub only : (d : Content) → Sound d → write d ≡ b → d ≡ c
+  pub only : (d : Content) → IsSound d → write d ≡ b → d ≡ c
 
 -- b is the writing of no sound content
-abbrev pub Unwritten : List ℕ → Type 0
-Unwritten b = (c : Content) → Sound c → write c ≢ b
+abbrev pub IsUnwritten : List ℕ → Type 0
+IsUnwritten b = (c : Content) → IsSound c → write c ≢ b

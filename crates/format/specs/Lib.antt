@@ -7,3 +7,5 @@ pub mod Judging
 pub mod Shown
 pub mod Content
 pub mod Changes
+pub mod InBuffer
+pub mod Conditions

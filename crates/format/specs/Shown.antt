@@ -1,13 +1,13 @@
 -- A layout as it is printed.
-use Rattle.std.specs.Prelude.{ℕ, Bool, cond, List, [], ◌++◌, codes, decimal, ◌==◌}
+use Rattle.std.specs.Prelude.{ℕ, Bool, List, [], ◌++◌, codes, decimal, ◌==◌, if◌then◌else◌}
 use Rattle.format.specs.declared.judging.Layout.{Layout}
 
 -- a count of things: 1 block, 2 blocks
 abbrev pub count_text : ℕ → List ℕ → List ℕ
-count_text n thing = decimal n ++ (codes " " ++ (thing ++ cond (n == 1) [] (codes "s")))
+count_text n thing = decimal n ++ (codes " " ++ (thing ++ (if n == 1 then [] else codes "s")))
 
 abbrev pub quality_text : Bool → List ℕ
-quality_text quality = cond quality (codes "quality") (codes "no quality")
+quality_text quality = if quality then codes "quality" else codes "no quality"
 
 -- version 6, 31 range cells of 512 Doppler bins, quality, data at 124, 2 blocks
 abbrev pub layout_text : Layout → List ℕ

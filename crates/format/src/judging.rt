@@ -2,9 +2,10 @@
 ghost use Rattle.std.specs.Prelude.{◌≡◌, MatchResult};
 ghost use Rattle.format.specs.Checks.{all_of};
 ghost use Rattle.format.specs.Changes.{WritingChanges};
-ghost use Rattle.format.specs.Content.{content, WritingOf, Unwritten};
-ghost use Rattle.format.specs.Judging.{holding, blocks_of, judged, judged_in_groups, FirstRefusal, Filled, CutThere};
+ghost use Rattle.format.specs.Content.{content, IsOnlyWriting, IsUnwritten};
+ghost use Rattle.format.specs.Judging.{holding_checks, blocks_of, judged, judged_in_groups, IsFirstRefusal, IsFilled, IsCutThere};
 
+use crate::extents::{SECTION_BEGIN, SECTION_SIZE_PLACE};
 use crate::header::{Header, check_opening};
 use crate::section::count_blocks;
 use crate::sizes::Sizes;
@@ -26,28 +27,30 @@ pub struct Layout {
 }
 
 impl<'a> Header<'a> {
-    /// Refuses 11 unless the cells lie within the file, then 8 unless the section of blocks lies before them.
+    /// Refuses 11 unless the cells lie within the file, then 8 unless the section of blocks lies
+    /// before them.
     fn check_holding(&self) -> Result<(), Fault>
-        ensures { result ≡ all_of (holding self.now.bytes.now self.now.version) }
+        ensures { result ≡ all_of (holding_checks self.now.bytes.now self.now.version) }
     {
         let start = self.data_start();
         if start as u128 + self.sizes().cells_size() > self.bytes.len() as u128 {
             return Err(Fault::at(Refusal::DataCut, start));
         }
-        if self.version >= 6 && 104 + self.section_size() > start {
-            return Err(Fault::at(Refusal::SectionTooLong, 100));
+        if self.version >= 6 && SECTION_BEGIN + self.section_size() > start {
+            return Err(Fault::at(Refusal::SectionTooLong, SECTION_SIZE_PLACE));
         }
         Ok(())
     }
 
-    /// The count of the blocks that fill the section; refuses 9 and 10 at the first that does not fit.
+    /// The count of the blocks that fill the section; refuses 9 and 10 at the first that does not
+    /// fit.
     fn check_filling(&self) -> Result<usize, Fault>
         ensures { result ≡ blocks_of self.now.bytes.now self.now.version }
     {
         if self.version < 6 {
             Ok(0)
         } else {
-            count_blocks(self.bytes, 104 + self.section_size())
+            count_blocks(self.bytes, SECTION_BEGIN + self.section_size())
         }
     }
 }
@@ -79,9 +82,10 @@ fn run_checks(bytes: &[u8]) -> Result<Layout, Fault>
 /// Looks at the header and at the head of each block only, and allocates nothing.
 pub fn judge(bytes: &[u8]) -> Result<Layout, Fault>
     ensures exact { result ≡ judged bytes.now }
-    ensures first { FirstRefusal bytes.now result }
-    ensures blocks { MatchResult result (Filled bytes.now) (CutThere bytes.now) }
-    ensures content { MatchResult result (λ _. WritingOf bytes.now (content bytes.now)) (λ _. Unwritten bytes.now) }
+    ensures first { IsFirstRefusal bytes.now result }
+    ensures blocks { MatchResult result (IsFilled bytes.now) (IsCutThere bytes.now) }
+    ensures content { MatchResult result (λ _. IsOnlyWriting bytes.now (content bytes.now)) (λ _.
+        IsUnwritten bytes.now) }
     ensures changes { WritingChanges }
 {
     run_checks(bytes)

@@ -1,13 +1,24 @@
 //! The sizes of a file's data, and what is asked of them.
 ghost use Rattle.std.specs.Prelude.{◌≡◌, IfOk};
 ghost use Rattle.format.specs.Checks.{first_of};
-ghost use Rattle.format.specs.Judging.{sizing};
-ghost use Rattle.format.specs.Rows.{bin_width, cells_size};
-ghost use Rattle.format.specs.Sizes.{has_quality, sizes_of};
+ghost use Rattle.format.specs.Judging.{size_checks};
+ghost use Rattle.format.specs.Sizes.{early_ranges, early_bins, most_ranges, most_bins, kind_has_quality, has_quality, sizes_of};
 
 use crate::header::Header;
 use buffers::Word;
 use faults::{Fault, Refusal};
+
+/// The range cells that a file below version 4 is assumed to have.
+pub const EARLY_RANGES: u32 = 31;
+
+/// The bins that such a file is assumed to have.
+pub const EARLY_BINS: u32 = 512;
+
+/// The most range cells that a file has.
+pub const MOST_RANGES: u32 = 8192;
+
+/// The most bins that a file has.
+pub const MOST_BINS: u32 = 32768;
 
 /// How many range cells, bins and channels the data have.
 #[derive(Clone, Copy, PartialEq, Eq, Debug)]
@@ -24,20 +35,11 @@ pub struct Sizes {
     pub quality: bool,
 }
 
-impl Sizes {
-    /// The bytes of all cells.
-    pub(crate) fn cells_size(&self) -> u128
-        ensures { result ≡ cells_size self.now }
-    {
-        self.ranges as u128 * self.bins as u128 * bin_width(self.quality) as u128
-    }
-}
-
-/// The bytes that a cell has for each bin.
-pub fn bin_width(quality: bool) -> usize
-    ensures { result ≡ bin_width quality }
+/// Whether field 2, taken as signed, says that there is a quality row.
+pub fn has_quality(kind: u16) -> bool
+    ensures { result ≡ kind_has_quality kind }
 {
-    if quality { 40 } else { 36 }
+    kind.cast_signed() >= 2
 }
 
 impl<'a> Header<'a> {
@@ -45,7 +47,7 @@ impl<'a> Header<'a> {
     fn has_quality(&self) -> bool
         ensures { result ≡ has_quality self.now.bytes.now self.now.version }
     {
-        self.version >= 2 && i16::at(self.bytes, 10) >= 2
+        self.version >= 2 && has_quality(u16::at(self.bytes, 10))
     }
 
     /// The sizes that the header gives, or those assumed for an early version.
@@ -55,8 +57,16 @@ impl<'a> Header<'a> {
         let bytes = self.bytes;
         let early = self.version < 4;
         Sizes {
-            ranges: if early { 31 } else { u32::at(bytes, 56) },
-            bins: if early { 512 } else { u32::at(bytes, 52) },
+            ranges: if early {
+                EARLY_RANGES
+            } else {
+                u32::at(bytes, 56)
+            },
+            bins: if early {
+                EARLY_BINS
+            } else {
+                u32::at(bytes, 52)
+            },
             channels: if self.version < 5 {
                 3
             } else {
@@ -69,14 +79,15 @@ impl<'a> Header<'a> {
 
     /// Refuses 5, 6 and 7 for bins, cells and channels out of range.
     pub(crate) fn check_sizes(&self) -> Result<Sizes, Fault>
-        ensures exact { result ≡ first_of (sizing self.now.bytes.now self.now.version) (sizes_of self.now.bytes.now self.now.version) }
+        ensures exact { result
+            ≡ first_of (size_checks self.now.bytes.now self.now.version) (sizes_of self.now.bytes.now self.now.version) }
         ensures same { IfOk result (λ s. s ≡ sizes_of self.now.bytes.now self.now.version) }
     {
         let sizes = self.sizes();
-        if self.version >= 4 && !(1..=32768).contains(&sizes.bins) {
+        if self.version >= 4 && !(1..=MOST_BINS).contains(&sizes.bins) {
             return Err(Fault::at(Refusal::Bins, 52));
         }
-        if self.version >= 4 && !(1..=8192).contains(&sizes.ranges) {
+        if self.version >= 4 && !(1..=MOST_RANGES).contains(&sizes.ranges) {
             return Err(Fault::at(Refusal::Cells, 56));
         }
         if self.version >= 5 && sizes.channels != 3 {

@@ -9,7 +9,8 @@ every_kind_returns k kept ns text out more e =
     let s = kept.steady out ns b.at (length text) (length out) b.read in
     let before : b.at ≤ length out = omega (arith, s.inside) in
     let room : length text ≤ length (drop b.at out) = simp length-drop (omega (arith, s.inside)) in
-    let fronts : take (length out) (out ++ more) ≡ take (length out) out = take_at out more (length out) refl ∙ sym (take_all (length out) out (omega arith)) in (
+    let fronts : take (length out) (out ++ more) ≡ take (length out) out =
+    take_at out more (length out) refl ∙ sym (take_all (length out) out (omega arith)) in (
       b.at,
       s.same (out ++ more) fronts,
       ap (take (length text)) (drop-append-le b.at out more before) ∙ take-append-le (length text) (drop b.at out) more room ∙ b.text_is,

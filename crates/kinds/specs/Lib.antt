@@ -1,5 +1,5 @@
 pub mod Kind
+pub mod Writing
 pub mod Packed
 pub mod Ended
-pub mod Look
 pub mod Field

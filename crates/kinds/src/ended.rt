@@ -1,13 +1,12 @@
 //! What texts that end before a zero share.
 ghost use Rattle.std.specs.Prelude.{◌≡◌, ◌+◌, ◌<◌, ◌≤◌, length, take, IfOk};
-ghost use Rattle.kinds.specs.Ended.{before_zero, ended_length, front as front_of, closed, limited};
-ghost use Rattle.kinds.specs.Kind.{measured, put_answer, put_buffer};
+ghost use Rattle.kinds.specs.Ended.{before_zero, ended_length, front as front_of, closed_text, text_output};
+ghost use Rattle.kinds.specs.Kind.{output_length, put_answer, put_buffer};
 
 use buffers::{write_bytes, write_word};
 use faults::{Fault, Refusal};
 
 /// How many bytes stand before the first zero, or all of them where there is none.
-// A count and no Option: it is the definition's own, and one comparison with the length tells whether there is a zero.
 pub fn first_zero(bytes: &[u8]) -> usize
     ensures { result ≡ before_zero bytes.now }
 {
@@ -30,7 +29,8 @@ pub fn ended_length(bytes: &[u8]) -> Result<usize, Fault>
     }
 }
 
-/// The length of the text in a block's data; refuses 14, at 0, where no zero ends it within the most bytes that it may have.
+/// The length of the text in a block's data; refuses 14, at 0, where no zero ends it within the
+/// most bytes that it may have.
 pub fn read_text(bytes: &[u8], most: Option<usize>) -> Result<usize, Fault>
     ensures exact { result ≡ ended_length (front_of most bytes.now) }
     ensures within { IfOk result (λ n. n < length bytes.now) }
@@ -44,7 +44,7 @@ pub fn read_text(bytes: &[u8], most: Option<usize>) -> Result<usize, Fault>
 
 /// The length of a text with its zero, one byte more; refuses 15 for a zero in it, at the first.
 fn measure_closed(text: &[u8]) -> Result<usize, Fault>
-    ensures exact { result ≡ measured (closed text.now) }
+    ensures exact { result ≡ output_length (closed_text text.now) }
     ensures short { IfOk result (λ n. n ≤ length text.now + 1) }
 {
     let plain = first_zero(text);
@@ -54,10 +54,10 @@ fn measure_closed(text: &[u8]) -> Result<usize, Fault>
     Ok(text.len() + 1)
 }
 
-/// The length of a text with its zero; refuses 15 for a text of more bytes than it may have, at the most of them, then for
-/// one with a zero in it, at the first. It is at most one byte more than the text.
+/// The length of a text with its zero, one byte more; refuses 15 for a text of more bytes than it
+/// may have, at the most of them, then for one with a zero in it, at the first.
 pub fn measure_text(text: &[u8], most: Option<usize>) -> Result<usize, Fault>
-    ensures exact { result ≡ measured (limited most text.now) }
+    ensures exact { result ≡ output_length (text_output most text.now) }
     ensures short { IfOk result (λ n. n ≤ length text.now + 1) }
 {
     match most {
@@ -68,8 +68,8 @@ pub fn measure_text(text: &[u8], most: Option<usize>) -> Result<usize, Fault>
 
 /// Writes a text and its zero to the start of `out`; refuses 15 as `measure_text` does, then 22.
 pub fn write_text(text: &[u8], most: Option<usize>, out: &mut [u8]) -> Result<usize, Fault>
-    ensures answer { result ≡ put_answer (limited most text.now) (length out.old) }
-    ensures buffer { out.new ≡ put_buffer (limited most text.now) out.old }
+    ensures answer { result ≡ put_answer (text_output most text.now) (length out.old) }
+    ensures buffer { out.new ≡ put_buffer (text_output most text.now) out.old }
 {
     let size = measure_text(text, most)?;
     if out.len() < size {

@@ -3,10 +3,10 @@
 
 mod ended;
 mod kind;
-mod look;
 mod packed;
+mod writing;
 
 pub use ended::{ended_length, first_zero, measure_text, read_text, write_text};
 pub use kind::{Kind, Reading, is_kind};
-pub use look::look_at;
 pub use packed::{Packed, check_record, measure_record};
+pub use writing::write_at;

@@ -1,13 +1,13 @@
-//! Packed records: numbers of fixed widths, one behind the other, and no text. A record says which numbers it has, and how
-//! they stand in bytes; here each is read, measured and written as a kind.
-ghost use Rattle.std.specs.Prelude.{◌≡◌, ◌≤◌, ℕ, true, List, length, IfOk, if◌then◌else◌, nat_le};
-ghost use Rattle.kinds.specs.Kind.{KindSpec, Keeps};
-ghost use Rattle.kinds.specs.Packed.{Part, total, values, fit, filled, long_enough, textless, record_kind};
+//! Packed records: numbers of fixed widths, one after the other, and no text. A record says which
+//! numbers it has, and how they stand in bytes; here each is read, measured and written as a kind.
+ghost use Rattle.std.specs.Prelude.{◌≡◌, ◌≤◌, ℕ, true, List, length, IfOk, nat_le};
+ghost use Rattle.kinds.specs.Kind.{KindSpec, IsSoundKind};
+ghost use Rattle.kinds.specs.Packed.{Part, record_size, numbers_at, numbers_fit, put_record, size_check, textless_size, record_kind};
 
 use crate::kind::{Kind, Reading};
 use faults::{Fault, Refusal};
 
-/// Numbers that stand in bytes one behind the other.
+/// Numbers that stand in bytes one after the other.
 pub trait Packed: Copy {
     /// The key of the record's kind.
     const KEY: [u8; 4];
@@ -20,36 +20,36 @@ pub trait Packed: Copy {
 
     ghost numbers: { Self → List ℕ };
 
-    // Each record lists its fields in `unpack` and `pack` itself: the gate takes no impl that a macro of this repository writes. It says
-    // its size in both `size` and `pack`: by `self.size()`, tried there, the longest record's proof stops at a limit of the search.
+    // What the type of a record says of each: a signed number fits its bits. `size` promises it.
+    ghost IsRecord: { Self → Type 0 };
 
-    /// The numbers at the start of the bytes; a byte behind the end counts as 0.
+    /// The numbers at the start of the bytes; a byte after the end counts as 0.
     fn unpack(bytes: &[u8]) -> Self
-        ensures { numbers result ≡ values parts bytes.now 0 };
+        ensures { numbers result ≡ numbers_at parts bytes.now 0 };
 
     /// How many bytes the numbers have, each of which fits its part: at most 4096.
     fn size(self) -> usize
-        ensures exact { result ≡ total parts }
-        ensures fits { fit parts (numbers self) ≡ true }
-        ensures short { result ≤ 4096 };
+        ensures exact { result ≡ record_size parts }
+        ensures fits { numbers_fit parts (numbers self) ≡ true }
+        ensures short { result ≤ 4096 }
+        ensures record { IsRecord self };
 
-    // A bool, as the moves of a buffer answer: written or not, with no value beside it.
-
-    /// Writes the numbers at the start of `out`; false, and nothing written, where there is no room for them.
+    /// Writes the numbers at the start of `out`; returns false, and writes nothing, where there is
+    /// no room for them.
     fn pack(self, out: &mut [u8]) -> bool
-        ensures answer { result ≡ nat_le (total parts) (length out.old) }
-        ensures buffer { out.new ≡ (if nat_le (total parts) (length out.old) then filled parts (numbers self) out.old 0 else out.old) };
+        ensures answer { result ≡ nat_le (record_size parts) (length out.old) }
+        ensures buffer { out.new ≡ put_record parts (numbers self) out.old };
 
     ghost packs: { kind ≡ record_kind KEY parts };
 
-    ghost keeps: { Keeps kind };
+    ghost keeps: { IsSoundKind kind };
 
-    ghost apart: { (x y : Self) → numbers x ≡ numbers y → x ≡ y };
+    ghost apart: { (x y : Self) → IsRecord x → IsRecord y → numbers x ≡ numbers y → x ≡ y };
 }
 
 /// Refuses 13, with the data's length, for data shorter than a record.
 pub fn check_record(bytes: &[u8], size: usize) -> Result<(), Fault>
-    ensures { result ≡ long_enough size bytes.now }
+    ensures { result ≡ size_check size bytes.now }
 {
     if bytes.len() < size {
         return Err(Fault::at(Refusal::RecordShort, bytes.len()));
@@ -57,9 +57,9 @@ pub fn check_record(bytes: &[u8], size: usize) -> Result<(), Fault>
     Ok(())
 }
 
-/// The size of a record, which takes no text; refuses 15 for any. What it answers is the size that it was given.
+/// The size of a record, as it was given; refuses 15 for any text.
 pub fn measure_record(size: usize, text: &[u8]) -> Result<usize, Fault>
-    ensures exact { result ≡ textless size text.now }
+    ensures exact { result ≡ textless_size size text.now }
     ensures short { IfOk result (λ n. n ≡ size) }
 {
     if !text.is_empty() {
@@ -74,6 +74,8 @@ impl<R: Packed> Kind for R {
     ghost kind = { R.kind };
 
     ghost numbers = { R.numbers };
+
+    ghost IsRecord = { R.IsRecord };
 
     ghost keeps = { R.keeps };
 

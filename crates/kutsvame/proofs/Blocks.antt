@@ -8,16 +8,16 @@ use Rattle.faults.specs.declared.fault.Fault.{Fault}
 use Rattle.format.specs.declared.judging.Layout.{Layout}
 use Rattle.format.specs.Judging.{judged}
 use Rattle.printed.specs.Table.{no_entry}
-use Rattle.reader.specs.Answers.{block_place, entry_at, entries, filled, table_list}
-use Rattle.reader.specs.Levels.{held, file_layout, accepted, or_no_file}
+use Rattle.reader.specs.Answers.{block_place, entry_at, entries, filled_list, table_list}
+use Rattle.reader.specs.Levels.{layout_of_file, file_layout, accepted_layout, or_no_file}
 
 -- an accepted file has the layout of judging
-held_layout : (b : List ℕ) (l : Layout) → judged b ≡ Ok l → held b ≡ Ok l
-unfolding held file_layout
-held_layout b l is = ap (λ (r : Result Layout Fault). or_no_file (accepted r)) is
+held_layout : (b : List ℕ) (l : Layout) → judged b ≡ Ok l → layout_of_file b ≡ Ok l
+unfolding layout_of_file file_layout
+held_layout b l is = ap (λ (r : Result Layout Fault). or_no_file (accepted_layout r)) is
 
 -- a table that is filled to its end has nothing of what it was
-filled_whole : {X : Type 0} (new old : List X) → length old ≤ length new → filled new old ≡ new
+filled_whole : {X : Type 0} (new old : List X) → length old ≤ length new → filled_list new old ≡ new
 filled_whole new old short = grind (arith, common_steps)
 
 -- a table of as many places as an accepted file has blocks has an entry for each of them, and no

@@ -44,9 +44,6 @@ impl Verb {
 /// The level of a reader that is given none: the highest.
 pub const LEVEL: usize = 6;
 
-/// How many bytes the buffer may have at most in which a file is drafted or changed.
-pub const MOST: usize = 1073741824;
-
 /// The arguments before a last `--force`, and whether it is there.
 pub fn split_force(arguments: &[String]) -> (&[String], bool) {
     match arguments.split_last() {

@@ -2,11 +2,11 @@
 ghost use Rattle.std.specs.Prelude.{IfOk, string_bytes, ◌≡◌};
 ghost use Rattle.kutsvame.specs.Lines.{raised_text, added_text};
 
-use crate::arguments::{MOST, split_force};
+use crate::arguments::split_force;
 use crate::command_error::{CommandError, read_accepted};
 use crate::judge::judge_bytes;
 use calls::{Outcome, Room, check_free, write_whole};
-use format::{Layout, judge};
+use format::{Layout, MOST_BYTES, judge};
 use script::Arguments;
 use session::{Edit, Working};
 use std::alloc::{AllocError, Global};
@@ -62,7 +62,13 @@ fn change<'a>(
     check_free(rt, request.to, request.over)?;
     let (bytes, layout) = read_accepted(rt, request.from)?;
     let size = bytes.len();
-    let mut working = Working::of(Room { bytes, most: MOST }, size);
+    let mut working = Working::of(
+        Room {
+            bytes,
+            most: MOST_BYTES,
+        },
+        size,
+    );
     let line = line_of(rt.alloc(), request.arguments)?;
     match working.edit(rt, edit, Arguments::of(line.as_str())) {
         Ok(Outcome::Refused(fault)) => Err(CommandError::Refused(request.from, fault)),

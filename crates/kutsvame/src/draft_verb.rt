@@ -2,13 +2,14 @@
 ghost use Rattle.std.specs.Prelude.{◌≡◌, IfOk, IfErr, IsNone, MatchOption};
 ghost use Rattle.calls.specs.declared.drafting.Drafting.TheVariants.{Closed};
 
-use crate::arguments::{MOST, split_force};
+use crate::arguments::split_force;
 use crate::command_error::{CommandError, number};
 use crate::judge::judge_bytes;
 use calls::{
     Answer, CallError, Drafting, Line, Outcome, Room, ScriptError, check_free, write_whole,
 };
 use draft::Start;
+use format::MOST_BYTES;
 use std::alloc::{AllocError, Global};
 use std::io;
 use std::io::Read;
@@ -223,7 +224,7 @@ pub fn draft_verb<'a>(rt: &HostRuntime, arguments: &'a [String]) -> Result<(), C
     check_free(rt, request.name, request.over)?;
     let mut script = Vec::new(rt.alloc());
     rt.reader().read_to_end(&mut script)?;
-    let mut room = Room::of_zeros(rt.alloc(), LEAST, MOST)?;
+    let mut room = Room::of_zeros(rt.alloc(), LEAST, MOST_BYTES)?;
     let values = values.as_slice();
     match draft_script(rt, &mut room, request.start, values, script.as_slice()) {
         Ok(length) => write_draft(rt, request, room.bytes.get(..length).unwrap_or(&[])),

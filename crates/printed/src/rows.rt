@@ -2,6 +2,7 @@
 ghost use Rattle.std.specs.Prelude.{◌≡◌, vec_items};
 ghost use Rattle.printed.specs.declared.rows.RowError.TheVariants.{Refused, OutOfMemory};
 ghost use Rattle.printed.specs.Patterns.{row_patterns, HoldsPatterns};
+ghost use Rattle.reader.specs.Judged.{judged_bytes};
 
 use faults::Fault;
 use reader::{JudgedFile, RowAt};
@@ -37,7 +38,7 @@ impl From<AllocError> for RowError {
 
 /// The patterns of a row; refuses as `JudgedFile::row` does.
 pub fn row_patterns(heap: Global, file: &JudgedFile, at: RowAt) -> Result<Vec<u32>, RowError>
-    ensures { HoldsPatterns vec_items (row_patterns file.now.bytes.now at.level at.cell at.row) result }
+    ensures { HoldsPatterns vec_items (row_patterns (judged_bytes file.now) at.level at.cell at.row) result }
 {
     let (_, length) = file.row(at)?;
     let mut list = vec![in heap; 0; length / 4]?;

@@ -1,5 +1,5 @@
 -- The readers of all levels agree: what holds of every accepted file.
-use Rattle.std.proofs.Common.{◌≡◌, ℕ, zero, suc, ◌+◌, ◌-◌, ◌*◌, ◌/◌, ◌<◌, ◌≤◌, min, ◌⊎◌, List, length, get_or, take, drop, Ok, Result, sym, refl, ap, ◌∙◌, subst, inl, inr, ⊎_elim, add_assoc, add-mul, mul-add, arith}
+use Rattle.std.proofs.Common.{◌≡◌, ℕ, zero, suc, ◌+◌, ◌-◌, ◌*◌, ◌/◌, ◌<◌, ◌≤◌, min, ◌⊎◌, List, length, get_or, take, drop, Ok, Err, IfOk, Result, sym, refl, ap, ◌∙◌, subst, inl, inr, ⊎_elim, add_assoc, add-mul, mul-add, arith}
 use Rattle.std.proofs.lemmas.Nat.{mul-le}
 use Rattle.std.proofs.lemmas.List.FromFn.{length-map-range_with_len, get_or-map-range_with_len}
 use Rattle.std.proofs.lemmas.List.{get_or-take, get_or-drop, get_or_append_left, length-take-le, length-drop}
@@ -7,47 +7,20 @@ use Rattle.std.proofs.lemmas.Bool.{cases_order, cases_lt}
 use Rattle.buffers.specs.Words.{word32}
 use Rattle.faults.specs.declared.fault.Fault.{Fault}
 use Rattle.format.specs.declared.judging.Layout.{Layout}
-use Rattle.format.specs.Checks.{◌with◌}
-use Rattle.format.specs.Header.{version, data_start}
-use Rattle.format.specs.Rows.{row_widths, bin_width, cells_size}
+use Rattle.format.specs.Checks.{all_of, ◌then◌, ◌with◌}
+use Rattle.format.specs.Header.{version}
+use Rattle.format.specs.Rows.{row_widths, width_before, width_of, bin_width, cells_size, row_span}
 use Rattle.format.specs.Section.{block_end}
-use Rattle.format.proofs.Rules.{Rules, Agrees}
+use Rattle.format.proofs.Rules.{each_agrees}
 use Rattle.reader.specs.declared.blocks.Entry.{Entry}
-use Rattle.reader.specs.Answers.{part, patterns, filled, width_before, width_of, row_span, block_place, entry_at, entries, start_by, row_part, numbers_answer, numbers_in, numbers_list, table_in, table_list}
+use Rattle.reader.specs.Answers.{part, patterns, filled_list, block_place, entry_at, entries, row_part, numbers_answer, list_after, numbers_list, table_after, table_list}
 use Rattle.reader.specs.Laws.{OneStart, FieldsAgree, RowsAgree, RowsInside, RowsApart, NumbersOfRows, BlocksFill, TableOfBlocks, AgreedFile}
-use Rattle.reader.specs.Levels.{held}
+use Rattle.reader.specs.Levels.{layout_of_file, row_conditions}
 use Rattle.reader.proofs.Asked.{RowOf, field_asked, row_asked, block_asked, block_answered, start_answered, table_answered}
 use Rattle.reader.proofs.Place.{held_judged, rules_of, filled_of, placed, reaches}
 use Rattle.reader.proofs.Spans.{parts_in_order, row_within, row_inside}
 
--- every extent that the version has leads to where the data begin
-each_extent : (b : List ℕ) (v i : ℕ) → Agrees b v 2 12 → Agrees b v 3 20 → Agrees b v 4 68 → Agrees b v 5 96 → 1 ≤ i → i ≤ 5 → i ≤ v
-    → start_by b i ≡ data_start b
-each_extent b v zero two three four five from to has = absurd (omega arith)
-each_extent b v (suc zero) two three four five from to has = refl
-each_extent b v (suc (suc zero)) two three four five from to has = two has
-each_extent b v (suc (suc (suc zero))) two three four five from to has = three has
-each_extent b v (suc (suc (suc (suc zero)))) two three four five from to has = four has
-each_extent b v (suc (suc (suc (suc (suc zero))))) two three four five from to has = five has
-each_extent b v (suc (suc (suc (suc (suc (suc i)))))) two three four five from to has = absurd (omega arith)
-
-by_extent : (b : List ℕ) (v i : ℕ) → Rules b v → 1 ≤ i → i ≤ 5 → i ≤ v → start_by b i ≡ data_start b
-by_extent b v i rules from to has =
-    let (_, rest) = rules in
-    let (_, rest) = rest in
-    let (_, rest) = rest in
-    let (_, rest) = rest in
-    let (_, rest) = rest in
-    let (_, rest) = rest in
-    let (_, rest) = rest in
-    let (_, rest) = rest in
-    let (two, rest) = rest in
-    let (three, rest) = rest in
-    let (four, rest) = rest in
-    let (five, rest) = rest in
-    each_extent b v i two three four five from to has
-
-one_start : (b : List ℕ) (l : Layout) → held b ≡ Ok l → OneStart b l
+one_start : (b : List ℕ) (l : Layout) → layout_of_file b ≡ Ok l → OneStart b l
 one_start b l h level from to =
     let p = placed b l h in
     let i = min (min level l.version) 5 in
@@ -55,12 +28,12 @@ one_start b l h level from to =
     let most : i ≤ 5 = omega arith in
     let has : i ≤ version b = omega (arith, p.version_is) in
     start_answered b l level h from to
-    ∙ ap Ok (by_extent b (version b) i (rules_of b l (held_judged b l h)) least most has ∙ sym p.start_is)
+    ∙ ap Ok (each_agrees b (version b) i (rules_of b l (held_judged b l h)) least most has ∙ sym p.start_is)
 
-fields_agree : (b : List ℕ) (l : Layout) → held b ≡ Ok l → FieldsAgree b
+fields_agree : (b : List ℕ) (l : Layout) → layout_of_file b ≡ Ok l → FieldsAgree b
 fields_agree b l h n i j x y e f = sym (field_asked b l i n x h e) ∙ field_asked b l j n y h f
 
-rows_agree : (b : List ℕ) (l : Layout) → held b ≡ Ok l → RowsAgree b
+rows_agree : (b : List ℕ) (l : Layout) → layout_of_file b ≡ Ok l → RowsAgree b
 rows_agree b l h cell row i j p q e f = sym (row_asked b l i cell row p h e).span ∙ (row_asked b l j cell row q h f).span
 
 -- a row ends within the cells
@@ -70,11 +43,19 @@ span_inside l cell row p o =
     let t = row_inside l cell row (o.cell_from, o.cell_to) (o.row_from, o.row_to) in
     subst (λ (x : ℕ × ℕ). (l.start ≤ x.0) × (x.0 + x.1 ≤ l.start + cells_size s)) o.span (omega arith, t)
 
-rows_inside : (b : List ℕ) (l : Layout) → held b ≡ Ok l → RowsInside b l
+rows_inside : (b : List ℕ) (l : Layout) → layout_of_file b ≡ Ok l → RowsInside b l
 rows_inside b l h level cell row p e =
     let at = placed b l h in
     let t = span_inside l cell row p (row_asked b l level cell row p h e) in
     (omega (arith, at.behind, t.0), omega (arith, at.cells_inside, t.1))
+
+-- a row that is answered lies in the file
+pub row_inside_if : (b : List ℕ) (l : Layout) (level cell row : ℕ) (r : Result (ℕ × ℕ) Fault) → Ok l ≡ layout_of_file b
+    → r ≡ (all_of (row_conditions l.version l.sizes level cell row) then Ok (row_span l cell row)) → IfOk r (λ p. p.0 + p.1 ≤ length b)
+row_inside_if b l level cell row (Ok p) h e =
+    let asked = ap (λ (x : Result Layout Fault). x with λ m. all_of (row_conditions m.version m.sizes level cell row) then Ok (row_span m cell row)) (sym h) in
+    (rows_inside b l (sym h) level cell row p (asked ∙ sym e)).1
+row_inside_if b l level cell row (Err f) h e = tt
 
 -- rows of one cell, the one before the other
 rows_in_order : (start cell bins all before width later : ℕ) → before + width ≤ later
@@ -96,20 +77,18 @@ pub span_before : (l : Layout) (cell row other-cell other_row : ℕ) (p q : ℕ 
     → (cell < other-cell) ⊎ ((cell ≡ other-cell) × (row < other_row)) → p.0 + p.1 ≤ q.0
 span_before l cell row other-cell other_row p q o m (inl less) =
     let s = l.sizes in
-    let w = s.quality in
-    let fits = row_within w row o.row_from o.row_to in
-    let t = cells_in_order l.start cell other-cell s.bins (bin_width w) (width_before w row) (width_of w row) (width_before w other_row) o.cell_from less fits in
+    let fits = row_within s row o.row_from o.row_to in
+    let t = cells_in_order l.start cell other-cell s.bins (bin_width s) (width_before s row) (width_of s row) (width_before s other_row) o.cell_from less fits in
     subst (λ (x : ℕ × ℕ). p.0 + p.1 ≤ x.0) m.span (subst (λ (x : ℕ × ℕ). x.0 + x.1 ≤ (row_span l other-cell other_row).0) o.span t)
 span_before l cell row other-cell other_row p q o m (inr same) =
     let s = l.sizes in
-    let w = s.quality in
     let less = same.1 in
-    let order = parts_in_order (row_widths w) (row - 1) (other_row - 1) (omega (arith, o.row_from, o.row_to)) (omega (arith, o.row_from)) in
-    let t = rows_in_order l.start (cell - 1) s.bins (bin_width w) (width_before w row) (width_of w row) (width_before w other_row) order in
+    let order = parts_in_order (row_widths s) (row - 1) (other_row - 1) (omega (arith, o.row_from, o.row_to)) (omega (arith, o.row_from)) in
+    let t = rows_in_order l.start (cell - 1) s.bins (bin_width s) (width_before s row) (width_of s row) (width_before s other_row) order in
     let u : (row_span l cell row).0 + (row_span l cell row).1 ≤ (row_span l other-cell other_row).0 = subst (λ (x : ℕ). (row_span l cell row).0 + (row_span l cell row).1 ≤ (row_span l x other_row).0) same.0 t in
     subst (λ (x : ℕ × ℕ). p.0 + p.1 ≤ x.0) m.span (subst (λ (x : ℕ × ℕ). x.0 + x.1 ≤ (row_span l other-cell other_row).0) o.span u)
 
-rows_apart : (b : List ℕ) (l : Layout) → held b ≡ Ok l → RowsApart b
+rows_apart : (b : List ℕ) (l : Layout) → layout_of_file b ≡ Ok l → RowsApart b
 rows_apart b l h i cell row j other-cell other_row p q e f differ =
     let o = row_asked b l i cell row p h e in
     let m = row_asked b l j other-cell other_row q h f in
@@ -135,7 +114,7 @@ part_word b at n j h =
 
 -- number i of a row's patterns
 pattern_at : (b old : List ℕ) (at n i : ℕ) → at + n ≤ length b → i < n / 4
-    → get_or (filled (patterns (take n (drop at b))) old) i 0 ≡ word32 b (at + 4 * i)
+    → get_or (filled_list (patterns (take n (drop at b))) old) i 0 ≡ word32 b (at + 4 * i)
 pattern_at b old at n i inside less =
     let row = take n (drop at b) in
     let long : length row ≡ n = length-take-le n (drop at b) (simp length-drop (omega arith)) in
@@ -147,12 +126,12 @@ pattern_at b old at n i inside less =
     ∙ get_or-map-range_with_len word 0 (length row / 4) i i 0 (omega arith) (omega arith)
     ∙ part_word b at n (4 * i) (omega arith)
 
-numbers_of_rows : (b : List ℕ) (l : Layout) → held b ≡ Ok l → NumbersOfRows b
+numbers_of_rows : (b : List ℕ) (l : Layout) → layout_of_file b ≡ Ok l → NumbersOfRows b
 numbers_of_rows b l h level cell row p old e f =
     let part-is : row_part b level cell row ≡ Ok (part b p) = ap (λ (x : Result (ℕ × ℕ) Fault). x with λ q. Ok (part b q)) e in
-    let whole : numbers_list b level cell row old ≡ filled (patterns (part b p)) old =
-    ap (λ (x : Result (List ℕ) Fault). numbers_in old x (numbers_answer b level cell row (length old))) part-is
-    ∙ ap (λ (x : Result (Unit {0}) Fault). numbers_in old (Ok (part b p)) x) f in
+    let whole : numbers_list b level cell row old ≡ filled_list (patterns (part b p)) old =
+    ap (λ (x : Result (List ℕ) Fault). list_after old x (numbers_answer b level cell row (length old))) part-is
+    ∙ ap (λ (x : Result (Unit {0}) Fault). list_after old (Ok (part b p)) x) f in
     let inside = (rows_inside b l h level cell row p e).1 in
     record {
       whole = whole;
@@ -160,7 +139,7 @@ numbers_of_rows b l h level cell row p old e f =
     }
 
 -- where the blocks end
-section_ends : (b : List ℕ) (l : Layout) → held b ≡ Ok l → 6 ≤ l.version → block_place b l.blocks ≡ 104 + l.section
+section_ends : (b : List ℕ) (l : Layout) → layout_of_file b ≡ Ok l → 6 ≤ l.version → block_place b l.blocks ≡ 104 + l.section
 section_ends b l h late = reaches ((filled_of b l (held_judged b l h)).tiled late)
 
 -- the block behind k others ends where the block behind k + 1 others begins
@@ -168,7 +147,7 @@ ends_at_next : (b : List ℕ) (k : ℕ) → 1 ≤ k → block_end b (block_place
 ends_at_next b zero from = absurd (omega arith)
 ends_at_next b (suc k) from = let is : suc k - 1 ≡ k = omega arith in ap (λ (x : ℕ). block_end b (block_place b x)) is
 
-blocks_fill : (b : List ℕ) (l : Layout) → held b ≡ Ok l → BlocksFill b l
+blocks_fill : (b : List ℕ) (l : Layout) → layout_of_file b ≡ Ok l → BlocksFill b l
 blocks_fill b l h =
     record {
       each = λ late k from to. (entry_at b (block_place b (k - 1)), block_answered b l k h late from to);
@@ -185,11 +164,11 @@ blocks_fill b l h =
       none = λ late no. let t = section_ends b l h late in let z : block_place b l.blocks ≡ 104 = ap (block_place b) no in omega arith;
     }
 
-table_of_blocks : (b : List ℕ) (l : Layout) → held b ≡ Ok l → TableOfBlocks b l
+table_of_blocks : (b : List ℕ) (l : Layout) → layout_of_file b ≡ Ok l → TableOfBlocks b l
 table_of_blocks b l h old fits =
     let answer = table_answered b l (length old) h fits in
     let entry : ℕ → Entry = λ i. entry_at b (block_place b i) in
-    let whole : table_list b old ≡ filled (entries b l.blocks) old = ap (table_in b old) answer in
+    let whole : table_list b old ≡ filled_list (entries b l.blocks) old = ap (table_after b old) answer in
     let count : length (entries b l.blocks) ≡ l.blocks = length-map-range_with_len entry 0 l.blocks in (
       answer,
       λ k d from to.

@@ -10,13 +10,13 @@ use Rattle.faults.specs.declared.refusal.Refusal.TheVariants.{NoSuchBlock}
 use Rattle.faults.specs.Faults.{fault}
 use Rattle.format.specs.declared.judging.Layout.{Layout}
 use Rattle.format.specs.Checks.{Check, unless, all_of, ◌then◌, ◌with◌}
-use Rattle.format.specs.Header.{pattern}
-use Rattle.format.specs.Rows.{row_widths}
+use Rattle.format.specs.Header.{the_extent, start_by, field_pattern}
+use Rattle.format.specs.Rows.{row_count, row_span}
 use Rattle.format.specs.Section.{block_end}
 use Rattle.reader.specs.declared.blocks.Entry.{Entry}
-use Rattle.reader.specs.Answers.{block_place, entry_at, entries, row_span, start_by, start_answer, field_answer, row_answer, block_answer, table_answer}
-use Rattle.reader.specs.Laws.{Placed}
-use Rattle.reader.specs.Levels.{held, level_known, layout_known, row_known, field_conditions, row_conditions, enough_room, blocks_seen, blocks_present, block_known, block_conditions}
+use Rattle.reader.specs.Answers.{block_place, entry_at, entries, start_answer, field_answer, row_answer, block_answer, table_answer}
+use Rattle.reader.specs.Laws.{IsPlaced}
+use Rattle.reader.specs.Levels.{layout_of_file, level_known, layout_known, row_known, field_conditions, row_conditions, enough_room, blocks_seen, blocks_present, block_known, block_conditions}
 use Rattle.reader.proofs.Place.{block_room}
 
 -- an answer behind a check: the check passed
@@ -38,36 +38,36 @@ asked r l next x h e = ap (λ (y : Result Layout Fault). y with next) (sym h) �
 pub within : (a n m : ℕ) → (leb a n && leb n m) ≡ true → (a ≤ n) × (n ≤ m)
 within a n m e = let p = and_parts (leb a n) (leb n m) e in (leb-true a n p.0, leb-true n m p.1)
 
-pub field_asked : (b : List ℕ) (l : Layout) (level n x : ℕ) → held b ≡ Ok l → field_answer b level n ≡ Ok x → pattern b n ≡ x
+pub field_asked : (b : List ℕ) (l : Layout) (level n x : ℕ) → layout_of_file b ≡ Ok l → field_answer b level n ≡ Ok x → field_pattern b n ≡ x
 field_asked b l level n x h e =
-    same_ok (pattern b n) x (then_ok (all_of (field_conditions l.version level n)) (Ok (pattern b n)) x (asked (held b) l (λ m. all_of (field_conditions m.version level n) then Ok (pattern b n)) x h e)).1
+    same_ok (field_pattern b n) x (then_ok (all_of (field_conditions l.version level n)) (Ok (field_pattern b n)) x (asked (layout_of_file b) l (λ m. all_of (field_conditions m.version level n) then Ok (field_pattern b n)) x h e)).1
 
 -- a row that is answered is one of the file's
 pub record RowOf (l : Layout) (cell row : ℕ) (p : ℕ × ℕ) : Type 0 where
   pub cell_from : 1 ≤ cell
   pub cell_to : cell ≤ l.sizes.ranges
   pub row_from : 1 ≤ row
-  pub row_to : row ≤ length (row_widths l.sizes.quality)
+  pub row_to : row ≤ row_count l.sizes
   pub span : row_span l cell row ≡ p
 
-pub row_asked : (b : List ℕ) (l : Layout) (level cell row : ℕ) (p : ℕ × ℕ) → held b ≡ Ok l → row_answer b level cell row ≡ Ok p → RowOf l cell row p
+pub row_asked : (b : List ℕ) (l : Layout) (level cell row : ℕ) (p : ℕ × ℕ) → layout_of_file b ≡ Ok l → row_answer b level cell row ≡ Ok p → RowOf l cell row p
 row_asked b l level cell row p h e =
     let q = then_ok (all_of (row_conditions l.version l.sizes level cell row)) (Ok (row_span l cell row)) p
-    (asked (held b) l (λ m. all_of (row_conditions m.version m.sizes level cell row) then Ok (row_span m cell row)) p h e) in
+    (asked (layout_of_file b) l (λ m. all_of (row_conditions m.version m.sizes level cell row) then Ok (row_span m cell row)) p h e) in
     let c1 = then_ok (level_known level) _ tt q.0 in
     let c2 = then_ok (layout_known l.version level) _ tt c1.1 in
     let c3 = then_ok (row_known l.sizes cell row) _ tt c2.1 in
     let both = and_parts _ _ (unless_ok _ _ c3.0) in
     let cells = within 1 cell l.sizes.ranges both.0 in
-    let rows = within 1 row (length (row_widths l.sizes.quality)) both.1 in
+    let rows = within 1 row (row_count l.sizes) both.1 in
     record { cell_from = cells.0; cell_to = cells.1; row_from = rows.0; row_to = rows.1; span = same_ok (row_span l cell row) p q.1 }
 
 -- a row of the file is answered
-pub row_answered : (b : List ℕ) (l : Layout) (cell row : ℕ) → held b ≡ Ok l → 1 ≤ cell → cell ≤ l.sizes.ranges → 1 ≤ row
-    → row ≤ length (row_widths l.sizes.quality) → row_answer b 6 cell row ≡ Ok (row_span l cell row)
+pub row_answered : (b : List ℕ) (l : Layout) (cell row : ℕ) → layout_of_file b ≡ Ok l → 1 ≤ cell → cell ≤ l.sizes.ranges → 1 ≤ row
+    → row ≤ row_count l.sizes → row_answer b 6 cell row ≡ Ok (row_span l cell row)
 row_answered b l cell row h cell_from cell_to row_from row_to =
     ap (λ (y : Result Layout Fault). y with λ m. all_of (row_conditions m.version m.sizes 6 cell row) then Ok (row_span m cell row)) h
-    ∙ rw (le-leb (min l.version 4) 6 (omega arith), le-leb 1 cell cell_from, le-leb cell l.sizes.ranges cell_to, le-leb 1 row row_from, le-leb row (length (row_widths l.sizes.quality)) row_to) refl
+    ∙ rw (le-leb (min l.version 4) 6 (omega arith), le-leb 1 cell cell_from, le-leb cell l.sizes.ranges cell_to, le-leb 1 row row_from, le-leb row (row_count l.sizes) row_to) refl
 
 -- a block that is answered is one of the file's
 pub record BlockOf (b : List ℕ) (l : Layout) (k : ℕ) (e : Entry) : Type 0 where
@@ -76,11 +76,11 @@ pub record BlockOf (b : List ℕ) (l : Layout) (k : ℕ) (e : Entry) : Type 0 wh
   pub to : k ≤ l.blocks
   pub entry : entry_at b (block_place b (k - 1)) ≡ e
 
-pub block_asked : (b : List ℕ) (l : Layout) (level k : ℕ) (x : Entry) → held b ≡ Ok l → block_answer b level k ≡ Ok x → BlockOf b l k x
+pub block_asked : (b : List ℕ) (l : Layout) (level k : ℕ) (x : Entry) → layout_of_file b ≡ Ok l → block_answer b level k ≡ Ok x → BlockOf b l k x
 block_asked b l level k x h e =
     let entry = entry_at b (block_place b (k - 1)) in
     let q = then_ok (all_of (level_known level ∷ blocks_seen level ∷ block_conditions l.version l.blocks k)) (Ok entry) x
-    (asked (held b) l (λ m. all_of (level_known level ∷ blocks_seen level ∷ block_conditions m.version m.blocks k) then Ok entry) x h e) in
+    (asked (layout_of_file b) l (λ m. all_of (level_known level ∷ blocks_seen level ∷ block_conditions m.version m.blocks k) then Ok entry) x h e) in
     let c1 = then_ok (level_known level) _ tt q.0 in
     let c2 = then_ok (blocks_seen level) _ tt c1.1 in
     let c3 = then_ok (blocks_present l.version) _ tt c2.1 in
@@ -115,7 +115,7 @@ entry_asked b l k e is =
     (q.0, ap (λ (x : Entry). x.place) (sym (same_ok entry e q.1)))
 
 -- and it lies in the bytes
-pub entry_inside : (b : List ℕ) (l : Layout) (k : ℕ) (r : Result Entry Fault) → Placed b l
+pub entry_inside : (b : List ℕ) (l : Layout) (k : ℕ) (r : Result Entry Fault) → IsPlaced b l
     → r ≡ (all_of (block_conditions l.version l.blocks k) then Ok (entry_at b (block_place b (k - 1)))) → IfOk r (λ e. block_end b e.place ≤ length b)
 entry_inside b l k (Ok e) p is =
     let q = entry_asked b l k e is in
@@ -126,20 +126,20 @@ entry_inside b l k (Ok e) p is =
 entry_inside b l k (Err f) p is = tt
 
 -- a block of the file is answered
-pub block_answered : (b : List ℕ) (l : Layout) (k : ℕ) → held b ≡ Ok l → 6 ≤ l.version → 1 ≤ k → k ≤ l.blocks
+pub block_answered : (b : List ℕ) (l : Layout) (k : ℕ) → layout_of_file b ≡ Ok l → 6 ≤ l.version → 1 ≤ k → k ≤ l.blocks
     → block_answer b 6 k ≡ Ok (entry_at b (block_place b (k - 1)))
 block_answered b l k h late from to =
     ap (λ (y : Result Layout Fault). y with λ m. all_of (level_known 6 ∷ blocks_seen 6 ∷ block_conditions m.version m.blocks k) then Ok (entry_at b (block_place b (k - 1)))) h
     ∙ rw (le-leb 6 l.version late, le-leb 1 k from, le-leb k l.blocks to) refl
 
 -- a level of 1 to 6 is answered where the data begin
-pub start_answered : (b : List ℕ) (l : Layout) (level : ℕ) → held b ≡ Ok l → 1 ≤ level → level ≤ 6
-    → start_answer b level ≡ Ok (start_by b (min (min level l.version) 5))
+pub start_answered : (b : List ℕ) (l : Layout) (level : ℕ) → layout_of_file b ≡ Ok l → 1 ≤ level → level ≤ 6
+    → start_answer b level ≡ Ok (start_by b (the_extent (min (min level l.version) 5)))
 start_answered b l level h from to =
-    ap (λ (y : Result Layout Fault). y with λ m. level_known level then Ok (start_by b (min (min level m.version) 5))) h
+    ap (λ (y : Result Layout Fault). y with λ m. level_known level then Ok (start_by b (the_extent (min (min level m.version) 5)))) h
     ∙ rw (le-leb 1 level from, le-leb level 6 to) refl
 
 -- a table that is long enough is answered the count of the blocks
-pub table_answered : (b : List ℕ) (l : Layout) (room : ℕ) → held b ≡ Ok l → l.blocks ≤ room → table_answer b room ≡ Ok l.blocks
+pub table_answered : (b : List ℕ) (l : Layout) (room : ℕ) → layout_of_file b ≡ Ok l → l.blocks ≤ room → table_answer b room ≡ Ok l.blocks
 table_answered b l room h fits =
     ap (λ (y : Result Layout Fault). y with λ m. enough_room m.blocks room then Ok m.blocks) h ∙ rw (le-leb l.blocks room fits) refl

@@ -7,7 +7,7 @@ use Rattle.std.specs.Iterator.Adapters.{enumerate_source, enumerate_count, enume
 use Rattle.std.specs.declared.iter.Enumerate.{Enumerate}
 use Rattle.std.proofs.lemmas.List.FromFn.{length-enumerate_from, get_or-enumerate_from}
 use Rattle.std.proofs.lemmas.List.{take_all, take_more, drop_more, set_at, length-take-le}
-use Rattle.reader.specs.Answers.{filled}
+use Rattle.reader.specs.Answers.{filled_list}
 
 -- one place more
 pub fill_more : {X : Type 0} (new old now : List X) (i : ℕ) (x : X) → i < length new → length new ≤ length old → now ≡ take i new ++ drop i old
@@ -20,7 +20,7 @@ fill_more new old now i x inside fits e is =
     cc
 
 -- all places
-pub fill_all : {X : Type 0} (new old now : List X) (n : ℕ) → n ≡ length new → now ≡ take n new ++ drop n old → now ≡ filled new old
+pub fill_all : {X : Type 0} (new old now : List X) (n : ℕ) → n ≡ length new → now ≡ take n new ++ drop n old → now ≡ filled_list new old
 fill_all {X} new old now n all e =
     e ∙ ap (λ (k : ℕ). take k new ++ drop k old) all ∙ ap (λ (x : List X). x ++ drop (length new) old) (take_all (length new) new (omega arith))
 

@@ -6,36 +6,37 @@ use Rattle.std.proofs.lemmas.Bool.Decides.{nat_tests}
 use Rattle.std.specs.List.{range_with_len}
 use Rattle.faults.specs.declared.fault.Fault.{Fault}
 use Rattle.format.specs.declared.judging.Layout.{Layout}
-use Rattle.format.specs.Checks.{Pass, FirstFails}
+use Rattle.format.specs.Checks.{IsPassed, IsFirstFault}
 use Rattle.format.specs.Header.{version, header_end, data_start, section_size}
-use Rattle.format.specs.Judging.{judged, layout_of, checks, Filled, CutThere}
-use Rattle.format.specs.Section.{block_end, Blocks, none, more}
+use Rattle.format.specs.Judging.{judged, layout_of, checks, IsFilled, IsCutThere}
+use Rattle.format.specs.Section.{block_end, IsBlockRow, none, more}
 use Rattle.format.proofs.InOrder.{first_refusal, says_of_blocks}
-use Rattle.format.proofs.Rules.{Rules, judged_tells}
+use Rattle.format.specs.Sizes.{early_ranges, early_bins, most_ranges, most_bins}
+use Rattle.format.proofs.Rules.{Rules, first_covers, judged_tells}
 use Rattle.reader.specs.declared.blocks.Entry.{Entry}
-use Rattle.reader.specs.Answers.{behind, block_place, BlocksInside, entry_at, entries_from, entries}
-use Rattle.reader.specs.Laws.{Placed}
-use Rattle.reader.specs.Levels.{accepted, or_no_file, file_layout, held}
+use Rattle.reader.specs.Answers.{place_after, block_place, IsBlocksInside, entry_at, entries_from, entries}
+use Rattle.reader.specs.Laws.{IsPlaced}
+use Rattle.reader.specs.Levels.{accepted_layout, or_no_file, file_layout, layout_of_file}
 
 -- the layout that is held is the one that judging answers
-judged_by : (r : Result Layout Fault) (l : Layout) → or_no_file (accepted r) ≡ Ok l → r ≡ Ok l
+judged_by : (r : Result Layout Fault) (l : Layout) → or_no_file (accepted_layout r) ≡ Ok l → r ≡ Ok l
 judged_by (Ok m) l e = e
 judged_by (Err f) l e = let z : ◌≡◌ {A = ℕ} 0 1 = cc in absurd (omega arith)
 
-pub held_judged : (b : List ℕ) (l : Layout) → held b ≡ Ok l → judged b ≡ Ok l
-unfolding held file_layout
+pub held_judged : (b : List ℕ) (l : Layout) → layout_of_file b ≡ Ok l → judged b ≡ Ok l
+unfolding layout_of_file file_layout
 held_judged b l e = judged_by (judged b) l e
 
 -- one block before n others, or behind them
-pub shift : (b : List ℕ) (at n : ℕ) → behind b (block_end b at) n ≡ block_end b (behind b at n)
+pub shift : (b : List ℕ) (at n : ℕ) → place_after b (block_end b at) n ≡ block_end b (place_after b at n)
 shift b at zero = refl
 shift b at (suc n) = ap (block_end b) (shift b at n)
 
 -- the blocks behind the first lie in the bytes too
-pub rest_inside : (b : List ℕ) (at n left : ℕ) (e : Entry) → BlocksInside b at n → left < n → e ≡ entry_at b at → BlocksInside b (at + (8 + e.size)) left
+pub rest_inside : (b : List ℕ) (at n left : ℕ) (e : Entry) → IsBlocksInside b at n → left < n → e ≡ entry_at b at → IsBlocksInside b (at + (8 + e.size)) left
 rest_inside b at n left e inside less is k l =
     let next : at + (8 + e.size) ≡ block_end b at = ap (λ (x : Entry). at + (8 + x.size)) is ∙ (omega arith) in
-    let there : behind b (at + (8 + e.size)) k ≡ block_end b (behind b at k) = ap (λ (x : ℕ). behind b x k) next ∙ shift b at k in
+    let there : place_after b (at + (8 + e.size)) k ≡ block_end b (place_after b at k) = ap (λ (x : ℕ). place_after b x k) next ∙ shift b at k in
     subst (λ (x : ℕ). block_end b x ≤ length b) (sym there) (inside (suc k) (omega arith))
 
 -- it lists as many entries as there are blocks
@@ -55,49 +56,32 @@ pub walk_meets : (b : List ℕ) (n : ℕ) → entries_from b 104 n ≡ entries b
 walk_meets b n = along b 0 104 n refl
 
 -- blocks that stand one behind the other end where the last does, and each within the bounds
-pub reaches : {b : List ℕ} {end at to n : ℕ} → Blocks b end at to n → behind b at n ≡ to
+pub reaches : {b : List ℕ} {end at to n : ℕ} → IsBlockRow b end at to n → place_after b at n ≡ to
 reaches none = refl
 reaches {b} {end} {at} (more {n = n} h r) = sym (shift b at n) ∙ reaches r
 
-pub within : {b : List ℕ} {end at to n : ℕ} → Blocks b end at to n → (k : ℕ) → k < n → block_end b (behind b at k) ≤ end
+pub within : {b : List ℕ} {end at to n : ℕ} → IsBlockRow b end at to n → (k : ℕ) → k < n → block_end b (place_after b at k) ≤ end
 within none k l = absurd (omega arith)
 within (more h r) zero l = h
 within {b} {end} {at} (more h r) (suc k) l = subst (λ (x : ℕ). block_end b x ≤ end) (shift b at k) (within r k (omega arith))
 
 -- what judging says of an accepted file
 pub layout_is : (b : List ℕ) (l : Layout) → judged b ≡ Ok l → l ≡ layout_of b
-layout_is b l e = (MatchResult-at_ok (λ m. (m ≡ layout_of b) × Pass (checks b)) (FirstFails (checks b)) l e (first_refusal b)).0
+layout_is b l e = (MatchResult-at_ok (λ m. (m ≡ layout_of b) × IsPassed (checks b)) (IsFirstFault (checks b)) l e (first_refusal b)).0
 
 pub rules_of : (b : List ℕ) (l : Layout) → judged b ≡ Ok l → Rules b (version b)
 rules_of b l e = (judged_tells b).0 (ap is_ok e)
 
-pub filled_of : (b : List ℕ) (l : Layout) → judged b ≡ Ok l → Filled b l
-filled_of b l e = MatchResult-at_ok (Filled b) (CutThere b) l e (says_of_blocks b)
+pub filled_of : (b : List ℕ) (l : Layout) → judged b ≡ Ok l → IsFilled b l
+filled_of b l e = MatchResult-at_ok (IsFilled b) (IsCutThere b) l e (says_of_blocks b)
 
 -- the data begin behind the header and the section
 starts_behind : (b : List ℕ) (v : ℕ) → Rules b v → header_end v + section_size b v ≤ data_start b
 starts_behind b v rules =
-    let (_, rest) = rules in
-    let (versions, rest) = rest in
-    let (_, rest) = rest in
-    let (covers, rest) = rest in
-    let (_, rest) = rest in
-    let (_, rest) = rest in
-    let (_, rest) = rest in
-    let (_, rest) = rest in
-    let (_, rest) = rest in
-    let (_, rest) = rest in
-    let (_, rest) = rest in
-    let (_, rest) = rest in
-    let (_, rest) = rest in
-    let (_, rest) = rest in
-    let (_, rest) = rest in
-    let (_, rest) = rest in
-    let (six, _) = rest in
-    let reach = (covers versions.0).1 in
+    let reach = (first_covers b v rules).1 in
     ⊎_elim
     (λ (l : v < 6). let none : section_size b v ≡ 0 = rw (lt-ltb v 6 l) in omega arith)
-    (λ (l : 6 ≤ v). let room = six l in let end : header_end v ≡ 104 = grind (arith, nat_tests) in omega arith)
+    (λ (l : 6 ≤ v). let room = rules.section_inside l in let end : header_end v ≡ 104 = grind (arith, nat_tests) in omega arith)
     (cases_lt v 6)
 
 -- sizes that are read lie in the range that is asked of them, and so do those that are assumed
@@ -107,7 +91,7 @@ sized b v read assumed most h from to =
     ⊎_elim (λ (l : v < 4). rw (lt-ltb v 4 l) (from, to)) (λ (l : 4 ≤ v). h l) (cases_lt v 4)
 
 -- the blocks end before the data begin
-blocks_before : (b : List ℕ) (l : Layout) → Filled b l → header_end l.version + l.section ≤ l.start → (k : ℕ) → k < l.blocks → block_end b (block_place b k) ≤ l.start
+blocks_before : (b : List ℕ) (l : Layout) → IsFilled b l → header_end l.version + l.section ≤ l.start → (k : ℕ) → k < l.blocks → block_end b (block_place b k) ≤ l.start
 blocks_before b l f room k lt =
     ⊎_elim
     (λ (early : l.version < 6). let none = f.early (omega arith) in absurd (omega arith))
@@ -117,51 +101,35 @@ blocks_before b l f room k lt =
     omega arith)
     (cases_lt l.version 6)
 
-pub placed : (b : List ℕ) (l : Layout) → held b ≡ Ok l → Placed b l
+pub placed : (b : List ℕ) (l : Layout) → layout_of_file b ≡ Ok l → IsPlaced b l
 placed b l h =
     let e = held_judged b l h in
     let is = layout_is b l e in
     let v = version b in
     let rules = rules_of b l e in
-    let f : Filled b (layout_of b) = subst (Filled b) is (filled_of b l e) in
-    let (_, rest) = rules in
-    let (versions, rest) = rest in
-    let (_, rest) = rest in
-    let (_, rest) = rest in
-    let (_, rest) = rest in
-    let (_, rest) = rest in
-    let (_, rest) = rest in
-    let (_, rest) = rest in
-    let (_, rest) = rest in
-    let (_, rest) = rest in
-    let (_, rest) = rest in
-    let (_, rest) = rest in
-    let (bins, rest) = rest in
-    let (ranges, rest) = rest in
-    let (_, rest) = rest in
-    let (inside, rest) = rest in
+    let f : IsFilled b (layout_of b) = subst (IsFilled b) is (filled_of b l e) in
     let front = starts_behind b v rules in
-    let few = sized b v _ 512 32768 bins (omega arith) (omega arith) in
-    let short = sized b v _ 31 8192 ranges (omega arith) (omega arith) in
-    subst (Placed b) (sym is) (record {
+    let few = sized b v _ early_bins most_bins rules.bins (omega arith) (omega arith) in
+    let short = sized b v _ early_ranges most_ranges rules.ranges (omega arith) (omega arith) in
+    subst (IsPlaced b) (sym is) (record {
       version_is = refl;
-      version_from = versions.0;
+      version_from = rules.version_from;
       start_is = refl;
       bins_from = few.0;
       bins_to = few.1;
       ranges_from = short.0;
       ranges_to = short.1;
-      cells_inside = inside;
+      cells_inside = rules.cells_inside;
       behind = front;
       blocks_inside = blocks_before b (layout_of b) f front;
     })
 
-pub placed_if : (b : List ℕ) (r : Result Layout Fault) → r ≡ held b → IfOk r (Placed b)
+pub placed_if : (b : List ℕ) (r : Result Layout Fault) → r ≡ layout_of_file b → IfOk r (IsPlaced b)
 placed_if b (Ok l) e = placed b l (sym e)
 placed_if b (Err f) e = tt
 
 -- a block of the file lies in its bytes
-pub block_room : (b : List ℕ) (l : Layout) (k at : ℕ) → Placed b l → 1 ≤ k → k ≤ l.blocks → at ≡ block_place b (k - 1) → block_end b at ≤ length b
+pub block_room : (b : List ℕ) (l : Layout) (k at : ℕ) → IsPlaced b l → 1 ≤ k → k ≤ l.blocks → at ≡ block_place b (k - 1) → block_end b at ≤ length b
 block_room b l k at p from to e =
     let before = p.blocks_inside (k - 1) (omega arith) in
     let room : block_end b (block_place b (k - 1)) ≤ length b = omega (arith, p.cells_inside) in

@@ -1,47 +1,46 @@
--- Reading at a level: the conditions of the questions. A level is what a reader knows of the format; a question is refused
--- by the first of its conditions that fails, and all these refusals are of the call.
-use Rattle.std.specs.Prelude.{ℕ, min, cond, ◌&&◌, List, [], ◌∷◌, length, Some, None, Ok, Err, Option, Result, nat_le}
+-- Reading at a level: the conditions of the questions. A level is what a reader knows of the
+-- format; a question is refused by the first of its conditions that fails, and all these refusals
+-- are of the call.
+use Rattle.std.specs.Prelude.{ℕ, min, cond, ◌&&◌, List, [], ◌∷◌, Some, None, Ok, Err, Option, Result, nat_le}
 use Rattle.faults.specs.declared.fault.Fault.{Fault}
-use Rattle.faults.specs.declared.refusal.Refusal.TheVariants.{NoFile, Level, LevelTooLow, VersionLacksIt, NoSuchField, NoSuchCellOrRow, NoSuchBlock, LayoutUnknown, ListOrTableTooShort}
+use Rattle.faults.specs.declared.refusal.Refusal.TheVariants.{NoFile, Level, LevelTooLow, VersionLacksIt, NoSuchCellOrRow, NoSuchBlock, LayoutUnknown, ListOrTableTooShort}
 use Rattle.faults.specs.Faults.{fault}
 use Rattle.format.specs.declared.judging.Layout.{Layout}
 use Rattle.format.specs.declared.sizes.Sizes.{Sizes}
 use Rattle.format.specs.Checks.{Check, unless}
-use Rattle.format.specs.Header.{fields, the_field}
+use Rattle.format.specs.Conditions.{field_known}
+use Rattle.format.specs.Header.{the_field}
 use Rattle.format.specs.Judging.{judged}
-use Rattle.format.specs.Rows.{row_widths}
+use Rattle.format.specs.Rows.{is_row}
 
 -- the layout that judging answers, if it accepts
-abbrev pub accepted : Result Layout Fault → Option Layout
-accepted (Ok l) = Some l
-accepted (Err f) = None
+abbrev pub accepted_layout : Result Layout Fault → Option Layout
+accepted_layout (Ok l) = Some l
+accepted_layout (Err f) = None
 
 -- the layout of a file; bytes that judging refuses are no file
 unfoldable pub file_layout : List ℕ → Option Layout
-file_layout b = accepted (judged b)
+file_layout b = accepted_layout (judged b)
 
 -- every question asks for the layout first, and is refused by 31 where there is no file
 abbrev pub or_no_file : Option Layout → Result Layout Fault
 or_no_file (Some l) = Ok l
 or_no_file None = Err (fault NoFile 0)
 
-unfoldable pub held : List ℕ → Result Layout Fault
-held b = or_no_file (file_layout b)
+unfoldable pub layout_of_file : List ℕ → Result Layout Fault
+layout_of_file b = or_no_file (file_layout b)
 
 -- the numbers of a layout, which tell it from every other
-abbrev pub numbers_of : Option Layout → List ℕ
-numbers_of (Some l) =
-    l.version ∷ l.start ∷ l.sizes.ranges ∷ l.sizes.bins ∷ l.sizes.channels ∷ l.sizes.first ∷ cond l.sizes.quality 1 0
+abbrev pub layout_numbers : Option Layout → List ℕ
+layout_numbers (Some l) =
+    l.version ∷ l.start ∷ l.sizes.ranges ∷ l.sizes.bins ∷ l.sizes.channels ∷ l.sizes.first
+    ∷ cond l.sizes.quality 1 0
     ∷ l.section ∷ l.blocks ∷ []
-numbers_of None = []
+layout_numbers None = []
 
 -- a level is one of 1 to 6
 abbrev pub level_known : ℕ → Check
 level_known level = unless (nat_le 1 level && nat_le level 6) (fault Level 0)
-
--- a field is one of those of the table
-abbrev pub field_known : ℕ → Check
-field_known n = unless (nat_le 1 n && nat_le n (length fields)) (fault NoSuchField 0)
 
 -- a level sees the fields of its own and of the levels below
 abbrev pub field_seen : ℕ → ℕ → Check
@@ -57,10 +56,7 @@ layout_known v level = unless (nat_le (min v 4) level) (fault LayoutUnknown 0)
 
 -- the cell is one of the file's, and the row one of a cell's
 abbrev pub row_known : Sizes → ℕ → ℕ → Check
-row_known s cell row =
-    unless
-    ((nat_le 1 cell && nat_le cell s.ranges) && (nat_le 1 row && nat_le row (length (row_widths s.quality))))
-    (fault NoSuchCellOrRow 0)
+row_known s cell row = unless (is_row s cell row) (fault NoSuchCellOrRow 0)
 
 -- a list or table of `room` places has room for n
 abbrev pub enough_room : ℕ → ℕ → Check
@@ -80,11 +76,13 @@ block_known n k = unless (nat_le 1 k && nat_le k n) (fault NoSuchBlock 0)
 
 -- what is asked of a row, in order, in a file of version v and those sizes
 abbrev pub row_conditions : ℕ → Sizes → ℕ → ℕ → ℕ → List Check
-row_conditions v s level cell row = level_known level ∷ layout_known v level ∷ row_known s cell row ∷ []
+row_conditions v s level cell row =
+    level_known level ∷ layout_known v level ∷ row_known s cell row ∷ []
 
 -- what is asked of a field, in order, in a file of version v
 abbrev pub field_conditions : ℕ → ℕ → ℕ → List Check
-field_conditions v level n = level_known level ∷ field_known n ∷ field_seen level n ∷ field_present v n ∷ []
+field_conditions v level n =
+    level_known level ∷ field_known n ∷ field_seen level n ∷ field_present v n ∷ []
 
 -- what is asked of a block, in order, without a level, in a file of version v with n blocks
 abbrev pub block_conditions : ℕ → ℕ → ℕ → List Check

@@ -1,3 +1,4 @@
 pub mod Levels
 pub mod Answers
 pub mod Laws
+pub mod Judged

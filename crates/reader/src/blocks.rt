@@ -3,18 +3,19 @@ ghost use Rattle.std.specs.Prelude.{◌≡◌, ℕ, ◌+◌, ◌-◌, ◌<◌, �
 ghost use Rattle.std.specs.Iterator.{YieldsFirst, at_most};
 ghost use Rattle.format.specs.Checks.{all_of, ◌then◌};
 ghost use Rattle.format.specs.Section.{block_end};
-ghost use Rattle.reader.specs.Answers.{block_place, entry_at, entries, entries_from, filled, BlocksInside, block_answer, table_answer, table_list, shown, look_answer};
-ghost use Rattle.reader.specs.Laws.{Placed};
+ghost use Rattle.reader.specs.Answers.{block_place, entry_at, entries, entries_from, filled_list, IsBlocksInside, block_answer, table_answer, table_list, reading_sight, look_answer};
+ghost use Rattle.reader.specs.Laws.{IsPlaced};
+ghost use Rattle.reader.specs.Judged.{judged_bytes};
 ghost use Rattle.reader.specs.Levels.{block_conditions};
 
-use crate::judged::{JudgedFile, check_level};
-use buffers::Word;
+use crate::file::JudgedFile;
+use crate::judged::check_level;
+use crate::sight::look_at;
 use faults::{Fault, Refusal};
-use format::Layout;
-use kinds::{Kind, Reading, look_at};
+use format::{BlockHead, Layout, SECTION_BEGIN};
+use kinds::{Kind, Reading};
 
 /// A block, by its head.
-// Its key is a number, as the definition answers it, and no four bytes as that of a kind.
 #[derive(Clone, Copy, PartialEq, Eq, Debug)]
 pub struct Entry {
     /// The key, as the big-endian number of its four bytes.
@@ -27,13 +28,13 @@ pub struct Entry {
 
 /// The entry of the block that begins at a place.
 fn read_entry(bytes: &[u8], at: usize) -> Entry
-    requires { at + 8 ≤ length bytes.now }
     ensures { result ≡ entry_at bytes.now at }
 {
+    let BlockHead { key, size } = BlockHead::read(bytes, at);
     Entry {
-        key: u32::at(bytes, at),
+        key: u32::from_be_bytes(key),
         place: at,
-        size: u32::at(bytes, at + 4) as usize,
+        size: size as usize,
     }
 }
 
@@ -43,7 +44,7 @@ struct Heads<'a> {
     bytes: &'a [u8],
     at: usize,
     left: usize,
-    ghost inside: { BlocksInside bytes.now at left },
+    ghost inside: { IsBlocksInside bytes.now at left },
 }
 
 impl<'a> Iterator for Heads<'a> {
@@ -56,7 +57,7 @@ impl<'a> Iterator for Heads<'a> {
     fn next(&mut self) -> Option<Entry> {
         self.left = self.left.checked_sub(1)?;
         let entry = read_entry(self.bytes, self.at);
-        self.at += 8 + entry.size;
+        self.at += BlockHead::SIZE + entry.size;
         Some(entry)
     }
 }
@@ -65,9 +66,9 @@ impl<'a> Heads<'a> {
     /// Puts the entries of the blocks at the start of the table.
     fn list(self, table: &mut [Entry])
         requires { self.left ≤ length table.old }
-        ensures { table.new ≡ filled (entries_from self.entry.bytes.now self.entry.at self.entry.left) table.old }
+        ensures { table.new
+            ≡ filled_list (entries_from self.entry.bytes.now self.entry.at self.entry.left) table.old }
     {
-        // By number, and not by `table.iter_mut().zip(self)`: of a table that was lent so, a proof knows no element.
         for (i, entry) in self.enumerate() {
             table[i] = entry;
         }
@@ -75,26 +76,28 @@ impl<'a> Heads<'a> {
 }
 
 impl<'a> JudgedFile<'a> {
-    // Layout and file are handed on side by side: a type for an accepted file would hold what a judged file holds, for two methods.
-
     /// The heads of all blocks.
     fn heads(&self, layout: Layout) -> Heads<'a>
-        requires { Placed self.now.bytes.now layout }
-        ensures all { entries_from result.bytes.now result.at result.left ≡ entries self.now.bytes.now layout.blocks }
+        requires { IsPlaced (judged_bytes self.now) layout }
+        ensures all { entries_from result.bytes.now result.at result.left
+            ≡ entries (judged_bytes self.now) layout.blocks }
         ensures count { result.left ≡ layout.blocks }
     {
         Heads {
             bytes: self.bytes,
-            at: 104,
+            at: SECTION_BEGIN,
             left: layout.blocks,
         }
     }
 
     /// The entry of a block; refuses 33 below version 6, and 34 for no such block.
     fn entry(&self, layout: Layout, number: usize) -> Result<Entry, Fault>
-        requires { Placed self.now.bytes.now layout }
-        ensures exact { result ≡ (all_of (block_conditions layout.version layout.blocks number) then Ok (entry_at self.now.bytes.now (block_place self.now.bytes.now (number - 1)))) }
-        ensures inside { IfOk result (λ entry. block_end self.now.bytes.now entry.place ≤ length self.now.bytes.now) }
+        requires { IsPlaced (judged_bytes self.now) layout }
+        ensures exact { result
+            ≡ (all_of (block_conditions layout.version layout.blocks number) then
+            Ok (entry_at (judged_bytes self.now) (block_place (judged_bytes self.now) (number - 1)))) }
+        ensures inside { IfOk result (λ entry.
+            block_end (judged_bytes self.now) entry.place ≤ length (judged_bytes self.now)) }
     {
         if layout.version < 6 {
             return Err(Fault::at(Refusal::VersionLacksIt, 0));
@@ -104,10 +107,10 @@ impl<'a> JudgedFile<'a> {
         self.heads(layout).nth(before).ok_or(none)
     }
 
-    /// The entry of a block, for a reader of that level; refuses 31, 19, 20 below level 6, 33 below version 6, and 34 for no
-    /// such block.
+    /// The entry of a block, for a reader of that level; refuses 31, 19, 20 below level 6, 33 below
+    /// version 6, and 34 for no such block.
     pub fn block(&self, level: usize, number: usize) -> Result<Entry, Fault>
-        ensures { result ≡ block_answer self.now.bytes.now level number }
+        ensures { result ≡ block_answer (judged_bytes self.now) level number }
     {
         let layout = self.layout()?;
         check_level(level)?;
@@ -117,11 +120,12 @@ impl<'a> JudgedFile<'a> {
         self.entry(layout, number)
     }
 
-    /// The entries of all blocks, at the start of the table, the rest of which stays; answers their count, 0 below version 6.
-    /// Refuses 31, then 22, with the count wanted, for a table that is too short.
+    /// The entries of all blocks, at the start of the table, the rest of which stays; answers their
+    /// count, 0 below version 6. Refuses 31, then 22, with the count wanted, for a table that is
+    /// too short.
     pub fn table(&self, table: &mut [Entry]) -> Result<usize, Fault>
-        ensures answer { result ≡ table_answer self.now.bytes.now (length table.old) }
-        ensures table { table.new ≡ table_list self.now.bytes.now table.old }
+        ensures answer { result ≡ table_answer (judged_bytes self.now) (length table.old) }
+        ensures table { table.new ≡ table_list (judged_bytes self.now) table.old }
     {
         let layout = self.layout()?;
         if layout.blocks > table.len() {
@@ -131,12 +135,14 @@ impl<'a> JudgedFile<'a> {
         Ok(layout.blocks)
     }
 
-    /// A block read as a kind: its record, its text as a place and a length in the file, and the bytes used. Refuses 31, 33
-    /// below version 6, 34 for no such block, 12 for another key, and then as the kind does.
+    /// A block read as a kind: its record, its text as a place and a length in the file, and the
+    /// bytes used. Refuses 31, 33 below version 6, 34 for no such block, 12 for another key, and
+    /// then as the kind does.
     #[tactic(auto, using(crate::proofs::Sights::look_shown))]
     pub fn look<K: Kind>(&self, number: usize) -> Result<Reading<K::Record>, Fault>
-        ensures answer { shown K.numbers result ≡ look_answer K.kind self.now.bytes.now number }
-        ensures inside { IfOk result (λ v. v.text + v.length ≤ length self.now.bytes.now) }
+        ensures answer { reading_sight K.numbers result
+            ≡ look_answer K.kind (judged_bytes self.now) number }
+        ensures inside { IfOk result (λ v. v.text + v.length ≤ length (judged_bytes self.now)) }
     {
         let layout = self.layout()?;
         let entry = self.entry(layout, number)?;

@@ -1,24 +1,15 @@
 //! The judged file: how it is made, its version, and where each level finds the data.
 ghost use Rattle.std.specs.Prelude.{◌≡◌, IfOk};
 ghost use Rattle.reader.specs.Answers.{version_answer, start_answer};
-ghost use Rattle.reader.specs.Laws.{Placed, AgreedFile, ReadFile};
-ghost use Rattle.reader.specs.Levels.{held, file_layout, numbers_of, level_known};
+ghost use Rattle.reader.specs.Laws.{IsPlaced, AgreedFile, ReadFile};
+ghost use Rattle.reader.specs.Judged.{judged_bytes};
+ghost use Rattle.reader.specs.Levels.{layout_of_file, level_known};
 
-use buffers::Word;
+use crate::file::JudgedFile;
 use faults::{Fault, Refusal};
-use format::{Layout, header_end, judge};
-
-/// Bytes that were judged, and where their parts stand if they were accepted. Of refused bytes it answers 31 to every
-/// question.
-#[derive(Clone, Copy)]
-pub struct JudgedFile<'a> {
-    pub(crate) bytes: &'a [u8],
-    layout: Option<Layout>,
-    ghost known: { numbers_of layout ≡ numbers_of (file_layout bytes.now) },
-}
+use format::{EXTENTS, Layout, judge};
 
 /// Refuses 19 for a level that is none of 1 to 6.
-// A type for levels would be no plainer: no contract rests on a level that was asked for being one of 1 to 6.
 pub(crate) fn check_level(level: usize) -> Result<(), Fault>
     ensures { result ≡ level_known level }
 {
@@ -35,7 +26,7 @@ impl<'a> JudgedFile<'a> {
     /// Its contract has the laws of reading: of an accepted file the readers of all levels agree.
     #[tactic(auto, using(crate::proofs::Known::kept_of))]
     pub fn of(bytes: &'a [u8]) -> JudgedFile<'a>
-        ensures bytes { result.bytes.now ≡ bytes.now }
+        ensures bytes { judged_bytes result ≡ bytes.now }
         ensures agree { AgreedFile bytes.now }
         ensures read { ReadFile bytes.now }
     {
@@ -48,15 +39,15 @@ impl<'a> JudgedFile<'a> {
     /// Where the parts of the file stand; refuses 31 if it was refused.
     #[tactic(auto, using(crate::proofs::Known::held_or, crate::proofs::Place::placed_if))]
     pub fn layout(&self) -> Result<Layout, Fault>
-        ensures exact { result ≡ held self.now.bytes.now }
-        ensures placed { IfOk result (Placed self.now.bytes.now) }
+        ensures exact { result ≡ layout_of_file (judged_bytes self.now) }
+        ensures placed { IfOk result (IsPlaced (judged_bytes self.now)) }
     {
         self.layout.ok_or(Fault::at(Refusal::NoFile, 0))
     }
 
     /// The file's version; refuses 31.
     pub fn version(&self) -> Result<u16, Fault>
-        ensures { result ≡ version_answer self.now.bytes.now }
+        ensures { result ≡ version_answer (judged_bytes self.now) }
     {
         let layout = self.layout()?;
         Ok(layout.version)
@@ -64,11 +55,11 @@ impl<'a> JudgedFile<'a> {
 
     /// Where a reader of that level finds the data; refuses 31, then 19.
     pub fn start(&self, level: usize) -> Result<usize, Fault>
-        ensures { result ≡ start_answer self.now.bytes.now level }
+        ensures { result ≡ start_answer (judged_bytes self.now) level }
     {
         let layout = self.layout()?;
         check_level(level)?;
-        let end = header_end(level.min(layout.version as usize).min(5) as u16);
-        Ok(end + u32::at(self.bytes, end - 4) as usize)
+        let extent = EXTENTS[level.min(layout.version as usize).min(5) - 1];
+        Ok(extent.start(self.bytes))
     }
 }

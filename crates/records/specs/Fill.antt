@@ -5,9 +5,14 @@ use Rattle.kinds.specs.Kind.{KindSpec}
 use Rattle.kinds.specs.Packed.{Part, plain, record_kind}
 use Rattle.records.specs.declared.fill.Fill.{Fill}
 
--- its parts, in order: 4 bytes
+-- its parts, in order, with CODAR's names: 4 bytes
 abbrev pub fill_parts : List Part
-fill_parts = plain one ∷ plain one ∷ plain one ∷ plain one ∷ []
+fill_parts =
+    plain one  -- nRangeMethod
+    ∷ plain one  -- nRangeMult
+    ∷ plain one  -- nDopplerMethod
+    ∷ plain one  -- nDopplerMult
+    ∷ []
 
 -- its numbers, in the same order
 abbrev pub fill_numbers : Fill → List ℕ

@@ -5,9 +5,14 @@ use Rattle.kinds.specs.Kind.{KindSpec}
 use Rattle.kinds.specs.Packed.{Part, plain, record_kind}
 use Rattle.records.specs.declared.fwin.Fwin.{Fwin}
 
--- its parts, in order: 18 bytes
+-- its parts, in order, with CODAR's names: 18 bytes
 abbrev pub fwin_parts : List Part
-fwin_parts = plain one ∷ plain one ∷ plain eight ∷ plain eight ∷ []
+fwin_parts =
+    plain one  -- nRangeWindowType
+    ∷ plain one  -- nDopplerWindowType
+    ∷ plain eight  -- fRangeWindowParam
+    ∷ plain eight  -- fDopplerWindowParam
+    ∷ []
 
 -- its numbers, in the same order
 abbrev pub fwin_numbers : Fwin → List ℕ

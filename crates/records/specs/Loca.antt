@@ -5,9 +5,13 @@ use Rattle.kinds.specs.Kind.{KindSpec}
 use Rattle.kinds.specs.Packed.{Part, plain, record_kind}
 use Rattle.records.specs.declared.loca.Loca.{Loca}
 
--- its parts, in order: 24 bytes
+-- its parts, in order, with CODAR's names: 24 bytes
 abbrev pub loca_parts : List Part
-loca_parts = plain eight ∷ plain eight ∷ plain eight ∷ []
+loca_parts =
+    plain eight  -- fLatitude
+    ∷ plain eight  -- fLongitude
+    ∷ plain eight  -- fAltitudeMeters
+    ∷ []
 
 -- its numbers, in the same order
 abbrev pub loca_numbers : Loca → List ℕ

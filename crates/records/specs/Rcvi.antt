@@ -6,14 +6,22 @@ use Rattle.kinds.specs.Kind.{KindSpec}
 use Rattle.kinds.specs.Packed.{Part, plain}
 use Rattle.records.specs.declared.rcvi.Rcvi.{Rcvi}
 
--- the parts before the text, in order: 16 bytes
+-- the parts before the text, in order, with CODAR's names: 16 bytes
 abbrev pub rcvi_parts : List Part
-rcvi_parts = plain four ∷ plain four ∷ plain eight ∷ []
+rcvi_parts =
+    plain four  -- nReceiverModel
+    ∷ plain four  -- nRxAntennaModel
+    ∷ plain eight  -- fReferenceGainDB
+    ∷ []
 
 -- its numbers, in the same order
 abbrev pub rcvi_numbers : Rcvi → List ℕ
 rcvi_numbers x = x.receiver ∷ x.antenna ∷ x.gain ∷ []
 
--- the firmware is a text of at most 31 bytes in the 32 bytes behind the numbers: 48 bytes in all
+-- the most bytes of the text, CODAR's szFirmware, which stands in the 32 bytes after the numbers:
+-- 48 bytes in all
+abbrev pub rcvi_most : ℕ
+rcvi_most = 31
+
 abbrev pub rcvi_kind : KindSpec
-rcvi_kind = field_kind (codes "RCVI") rcvi_parts 31
+rcvi_kind = field_kind (codes "RCVI") rcvi_parts rcvi_most

@@ -8,16 +8,15 @@ use buffers::{Word, write_word};
 use kinds::Packed;
 
 /// The numbers of a FILL block.
-// Some are numbers that name a choice, and no enums: a file may hold any number there, and what was read is written back.
 #[derive(Clone, Copy, PartialEq, Debug)]
 pub struct Fill {
-    /// The range method: 0 none, 1 linear, 2 padding.
+    /// The range method, CODAR's nRangeMethod: 0 none, 1 linear, 2 padding.
     pub range_method: u8,
-    /// By how much range cells were multiplied: 1 for not at all.
+    /// By how much range cells were multiplied, nRangeMult: 1 for not at all.
     pub range_multiple: u8,
-    /// The Doppler method, numbered as that of range.
+    /// The Doppler method, nDopplerMethod, numbered as that of range.
     pub doppler_method: u8,
-    /// By how much Doppler bins were multiplied.
+    /// By how much Doppler bins were multiplied, nDopplerMult: 1 for not at all.
     pub doppler_multiple: u8,
 }
 
@@ -31,6 +30,8 @@ impl Packed for Fill {
     ghost parts = { fill_parts };
 
     ghost numbers = { fill_numbers };
+
+    ghost IsRecord = { λ x. Unit {0} };
 
     ghost packs = { refl };
 

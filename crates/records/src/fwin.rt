@@ -8,16 +8,15 @@ use buffers::{Word, write_word};
 use kinds::Packed;
 
 /// The windows of a FWIN block; parameters are the bit patterns of 64-bit floats.
-// Some are numbers that name a choice, and no enums: a file may hold any number there, and what was read is written back.
 #[derive(Clone, Copy, PartialEq, Debug)]
 pub struct Fwin {
-    /// The range window: 0 none, 1 Blackman, 2 Hamming, 3 Tukey.
+    /// The range window, CODAR's nRangeWindowType: 0 none, 1 Blackman, 2 Hamming, 3 Tukey.
     pub range: u8,
-    /// The Doppler window, numbered as that of range.
+    /// The Doppler window, nDopplerWindowType, numbered as that of range.
     pub doppler: u8,
-    /// The parameter of the range window.
+    /// The parameter of the range window, fRangeWindowParam.
     pub range_parameter: u64,
-    /// The parameter of the Doppler window.
+    /// The parameter of the Doppler window, fDopplerWindowParam.
     pub doppler_parameter: u64,
 }
 
@@ -31,6 +30,8 @@ impl Packed for Fwin {
     ghost parts = { fwin_parts };
 
     ghost numbers = { fwin_numbers };
+
+    ghost IsRecord = { λ x. Unit {0} };
 
     ghost packs = { refl };
 

@@ -8,26 +8,25 @@ use buffers::{Word, write_word};
 use kinds::Packed;
 
 /// The numbers of a GLRM block; thresholds are the bit patterns of 64-bit floats.
-// Some are numbers that name a choice, and no enums: a file may hold any number there, and what was read is written back.
 #[derive(Clone, Copy, PartialEq, Debug)]
 pub struct Glrm {
-    /// The method: 0 off, 1 point, 2 range, 3 range and point, 4 DC only.
+    /// The method, CODAR's nMethod: 0 off, 1 point, 2 range, 3 range and point, 4 DC only.
     pub method: u8,
-    /// The version of the method.
+    /// The version of the method, nVersion.
     pub version: u8,
-    /// How many points were removed.
+    /// How many points were removed, nPointsRemoved.
     pub points: u32,
-    /// How many times something was removed.
+    /// How many times something was removed, nTimesRemoved.
     pub times: u32,
-    /// How many segments were removed.
+    /// How many segments were removed, nSegmentsRemoved.
     pub segments: u32,
-    /// The power threshold of a point.
+    /// The power threshold of a point, fPointPowerThreshold.
     pub point_power: u64,
-    /// The power threshold of a range.
+    /// The power threshold of a range, fRangePowerThreshold.
     pub range_power: u64,
-    /// The threshold of a range bin.
+    /// The threshold of a range bin, fRangeBinThreshold.
     pub range_bin: u64,
-    /// 0 where DC was left alone, else it was removed.
+    /// bRemoveDC: 0 where DC was left alone, else it was removed.
     pub remove_dc: u8,
 }
 
@@ -41,6 +40,8 @@ impl Packed for Glrm {
     ghost parts = { glrm_parts };
 
     ghost numbers = { glrm_numbers };
+
+    ghost IsRecord = { λ x. Unit {0} };
 
     ghost packs = { refl };
 

@@ -10,11 +10,11 @@ use kinds::Packed;
 /// The location of a LOCA block; its numbers are the bit patterns of 64-bit floats.
 #[derive(Clone, Copy, PartialEq, Debug)]
 pub struct Loca {
-    /// The latitude, in degrees.
+    /// The latitude in degrees, CODAR's fLatitude.
     pub latitude: u64,
-    /// The longitude, in degrees.
+    /// The longitude in degrees, fLongitude.
     pub longitude: u64,
-    /// The altitude, in metres.
+    /// The altitude in metres, fAltitudeMeters.
     pub altitude: u64,
 }
 
@@ -28,6 +28,8 @@ impl Packed for Loca {
     ghost parts = { loca_parts };
 
     ghost numbers = { loca_numbers };
+
+    ghost IsRecord = { λ x. Unit {0} };
 
     ghost packs = { refl };
 

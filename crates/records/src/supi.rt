@@ -1,6 +1,7 @@
 //! SUPI: what was done to suppress stripes.
 ghost use Rattle.std.specs.Prelude.{codes, refl};
-ghost use Rattle.records.specs.Supi.{supi_parts, supi_numbers, supi_kind};
+ghost use Rattle.records.specs.Supi.{supi_parts, supi_numbers, IsSupi, supi_kind};
+ghost use Rattle.kinds.proofs.Patterns.{same_pattern};
 ghost use Rattle.kinds.proofs.Records.{record_keeps};
 ghost use Rattle.std.proofs.Common.{rules};
 
@@ -8,26 +9,25 @@ use buffers::{Word, write_word};
 use kinds::Packed;
 
 /// The numbers of a SUPI block; thresholds are the bit patterns of 64-bit floats.
-// Some are numbers that name a choice, and no enums: a file may hold any number there, and what was read is written back.
 #[derive(Clone, Copy, PartialEq, Debug)]
 pub struct Supi {
-    /// The method: 0 off, 1 normal.
+    /// The method, CODAR's nMethod: 0 off, 1 normal.
     pub method: u8,
-    /// The version of the method.
+    /// The version of the method, nVersion.
     pub version: u8,
-    /// The mode: 0 light, 1 heavy, 2 the most light, 3 the most heavy.
+    /// The mode, nMode: 0 light, 1 heavy, 2 the most light, 3 the most heavy.
     pub mode: u8,
-    /// The debug mode: 0 off, 1 on.
+    /// The debug mode, nDebugMode: 0 off, 1 on.
     pub debug_mode: u8,
-    /// How many Doppler cells were suppressed.
+    /// How many Doppler cells were suppressed, nDopplerSuppressed.
     pub cells: u32,
-    /// The power threshold.
+    /// The power threshold, fPowerThreshold.
     pub power: u64,
-    /// The range bin threshold.
+    /// The range bin threshold, fRangeBinThreshold.
     pub range_bin: u64,
-    /// The banding in range.
+    /// The banding in range, nRangeBanding.
     pub banding: i16,
-    /// The smoothing of the Doppler detection.
+    /// The smoothing of the Doppler detection, nDopplerDetectionSmoothing.
     pub smoothing: i16,
 }
 
@@ -42,11 +42,13 @@ impl Packed for Supi {
 
     ghost numbers = { supi_numbers };
 
+    ghost IsRecord = { IsSupi };
+
     ghost packs = { refl };
 
     ghost keeps = { record_keeps (codes "SUPI") supi_parts refl };
 
-    ghost apart = { Prim.search rules };
+    ghost apart = { Prim.search (rules, same_pattern) };
 
     fn unpack(bytes: &[u8]) -> Supi {
         Supi {

@@ -8,26 +8,25 @@ use buffers::{Word, write_word};
 use kinds::Packed;
 
 /// The time of a TIME block; seconds and hours are the bit patterns of 64-bit floats.
-// Some are numbers that name a choice, and no enums: a file may hold any number there, and what was read is written back.
 #[derive(Clone, Copy, PartialEq, Debug)]
 pub struct Time {
-    /// What the time marks: 0 the start, 1 the centre, 2 the end.
+    /// What the time marks, CODAR's nTimeMark: 0 the start, 1 the centre, 2 the end.
     pub mark: u8,
-    /// The year, of the Gregorian calendar and in local time.
+    /// The year, nYear, of the Gregorian calendar and in local time.
     pub year: u16,
-    /// The month, from 1.
+    /// The month from 1, nMonth.
     pub month: u8,
-    /// The day of the month, from 1.
+    /// The day of the month from 1, nDay.
     pub day: u8,
-    /// The hour.
+    /// The hour, nHour.
     pub hour: u8,
-    /// The minute.
+    /// The minute, nMinute.
     pub minute: u8,
-    /// The seconds.
+    /// The seconds, fSeconds.
     pub seconds: u64,
-    /// The seconds that the spectra cover.
+    /// The seconds that the spectra cover, fCoverageSeconds.
     pub coverage: u64,
-    /// The hours from UTC.
+    /// The hours from UTC, fHoursFromUTC.
     pub utc: u64,
 }
 
@@ -41,6 +40,8 @@ impl Packed for Time {
     ghost parts = { time_parts };
 
     ghost numbers = { time_numbers };
+
+    ghost IsRecord = { λ x. Unit {0} };
 
     ghost packs = { refl };
 

@@ -1,7 +1,10 @@
 -- The fields of a record: their names, and their numbers as arguments write them.
-use Rattle.std.specs.Prelude.{◌≡◌, ℕ, suc, ◌/◌, ◌%◌, ◌==◌, if◌then◌else◌, ℤ, pos, negsuc, List, [], ◌∷◌, ◌++◌, codes, decimal, ⊤}
+use Rattle.std.specs.Prelude.{◌≡◌, ℕ, suc, FitsSigned, ℤ, pos, negsuc, List, [], ◌∷◌, ◌++◌, codes, decimal, ⊤}
+use Rattle.std.specs.Int.{w16}
+use Rattle.std.specs.List.{flat_map}
+use Rattle.std.proofs.Common.{of_z, to_z}
 use Rattle.buffers.specs.Words.{Width, one, two, four, eight}
-use Rattle.kinds.specs.Packed.{Part, plain, signed, folded}
+use Rattle.kinds.specs.Packed.{Part, plain, signed}
 use Rattle.script.specs.declared.fields.Field.{Field}
 use Rattle.script.specs.declared.fields.Numeral.{Numeral}
 use Rattle.script.specs.declared.fields.Numeral.TheVariants.{Unsigned, Signed, Float}
@@ -48,7 +51,7 @@ numeral_for eight n = Float n
 abbrev pub IsNumeralOf : Part → ℕ → Numeral → Type 0
 IsNumeralOf (plain w) n x = x ≡ numeral_for w n
 IsNumeralOf signed n (Unsigned m) = ⊥
-IsNumeralOf signed n (Signed z) = folded z ≡ n
+IsNumeralOf signed n (Signed z) = FitsSigned w16 z × (of_z w16 z ≡ n)
 IsNumeralOf signed n (Float m) = ⊥
 
 -- the fields have the numbers of the parts, in order
@@ -74,10 +77,10 @@ numeral_text (Float x) = decimal x
 abbrev pub field_argument : Field → List ℕ
 field_argument f = codes " " ++ numeral_text f.1
 
--- a number of a part in decimal digits; a record has a signed one folded
+-- a number of a part in decimal digits; a record has a signed one as its bit pattern
 abbrev pub part_text : Part → ℕ → List ℕ
 part_text (plain w) n = decimal n
-part_text signed n = if n % 2 == 0 then decimal (n / 2) else (45 ∷ decimal (suc (n / 2)))
+part_text signed n = signed_text (to_z w16 n)
 
 -- the numbers of the parts in order, each after a space
 abbrev pub arguments_for : List Part → List ℕ → List ℕ

@@ -4,3 +4,4 @@ pub mod Records
 pub mod Fields
 pub mod Arguments
 pub mod Literal
+pub mod Rest

@@ -4,6 +4,7 @@ ghost use Rattle.std.specs.Iterator.{at_most};
 ghost use Rattle.std.specs.List.{position_or_len, prefix_len};
 ghost use Rattle.script.specs.Numbers.{IsNumeralFor, ReadsNumber};
 ghost use Rattle.script.specs.Arguments.{first_argument, argument, after_argument, unspaced, argument_length, is_space};
+ghost use Rattle.script.specs.Rest.{rest_of};
 
 use crate::argument_error::ArgumentError;
 use crate::numbers::Number;
@@ -59,16 +60,16 @@ fn split_argument(text: &str) -> (&str, &str)
 impl<'a> Arguments<'a> {
     /// The arguments of a line.
     pub fn of(line: &'a str) -> Arguments<'a>
-        ensures { result.rest.now ≡ line.now }
+        ensures { rest_of result ≡ line.now }
     {
         Arguments { rest: line }
     }
 
     /// The number that the next argument writes; refuses an argument that writes none.
     pub fn number<N: Number>(&mut self) -> Result<N, ArgumentError>
-        ensures ok { IfOk result (λ n. ReadsNumber N.part self.old.rest.now (N.number n)) }
-        ensures err { OnErr result (IsNumeralFor N.part (argument self.old.rest.now) → ⊥) }
-        ensures rest { self.new.rest.now ≡ after_argument self.old.rest.now }
+        ensures ok { IfOk result (λ n. ReadsNumber N.part (rest_of self.old) (N.number n)) }
+        ensures err { OnErr result (IsNumeralFor N.part (argument (rest_of self.old)) → ⊥) }
+        ensures rest { rest_of self.new ≡ after_argument (rest_of self.old) }
     {
         let argument = self.next().ok_or(ArgumentError::Missing)?;
         N::named(argument).ok_or(ArgumentError::NoNumber)
@@ -76,8 +77,8 @@ impl<'a> Arguments<'a> {
 
     /// Refuses a line that has arguments left.
     pub fn end(mut self) -> Result<(), ArgumentError>
-        ensures ok { IfOk result (λ done. first_argument self.entry.rest.now ≡ None) }
-        ensures err { OnErr result (IsSome (first_argument self.entry.rest.now)) }
+        ensures ok { IfOk result (λ done. first_argument (rest_of self.entry) ≡ None) }
+        ensures err { OnErr result (IsSome (first_argument (rest_of self.entry))) }
     {
         match self.next() {
             None => Ok(()),

@@ -11,6 +11,7 @@ ghost use Rattle.records.specs.Supi.{supi_parts, supi_numbers};
 ghost use Rattle.records.specs.Time.{time_parts, time_numbers};
 ghost use Rattle.script.specs.Fields.{field_name, HaveNumbers, numeral_text, field_argument, arguments_for, time_names, loca_names, rcvi_names, glrm_names, supi_names, fwin_names, fill_names};
 ghost use Rattle.script.specs.Records.{HasNumeralsFor, ReadsNumbers};
+ghost use Rattle.script.specs.Rest.{rest_of};
 
 use crate::argument_error::ArgumentError;
 use crate::arguments::Arguments;
@@ -63,8 +64,8 @@ pub trait Fields: Copy {
     /// The record whose numbers, in order, are those that the next arguments write; refuses where
     /// one of them writes none that fits.
     fn from_arguments(arguments: &mut Arguments) -> Result<Self, ArgumentError>
-        ensures ok { IfOk result (λ r. ReadsNumbers parts arguments.old.rest.now (numbers r) arguments.new.rest.now) }
-        ensures err { OnErr result (HasNumeralsFor parts arguments.old.rest.now → ⊥) };
+        ensures ok { IfOk result (λ r. ReadsNumbers parts (rest_of arguments.old) (numbers r) (rest_of arguments.new)) }
+        ensures err { OnErr result (HasNumeralsFor parts (rest_of arguments.old) → ⊥) };
 
     /// What is shown between the fields and the text of the record's block; nothing where the block
     /// has no text.

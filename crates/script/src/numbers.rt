@@ -1,7 +1,9 @@
 //! Decimal numbers.
 ghost use Rattle.std.specs.Prelude.{ℕ, List};
 ghost use Rattle.buffers.specs.Words.{one, two, four, eight};
-ghost use Rattle.kinds.specs.Packed.{Part, plain, signed, folded};
+ghost use Rattle.std.specs.Int.{w16};
+ghost use Rattle.std.proofs.Common.{of_z};
+ghost use Rattle.kinds.specs.Packed.{Part, plain, signed};
 ghost use Rattle.script.specs.Numbers.{NamesNumber};
 
 /// A number that an argument can write.
@@ -69,7 +71,7 @@ impl Number for usize {
 impl Number for i16 {
     ghost part = { signed };
 
-    ghost number = { folded };
+    ghost number = { of_z w16 };
 
     fn named(argument: &str) -> Option<i16> {
         argument.parse::<i16>().ok()

@@ -5,7 +5,7 @@ use Rattle.kinds.specs.Packed.{plain}
 use Rattle.script.specs.Numbers.{number_for}
 use Rattle.script.specs.Arguments.{argument, after_argument}
 use Rattle.faults.specs.declared.fault.Fault.{Fault}
-use Rattle.editor.specs.Calls.{Call, State, load, edit, answer, after}
+use Rattle.editor.specs.Calls.{Call, WorkState, load, edit, call_answer, state_after}
 use Rattle.editor.specs.Edits.{set, store, carry, lengthen, remove}
 use Rattle.reader.specs.Answers.{version_answer, start_answer, field_answer, row_answer, block_answer}
 use Rattle.reader.specs.declared.rows.RowAt.{RowAt}
@@ -40,33 +40,33 @@ abbrev pub remove_call : List ℕ → Call
 remove_call t = edit (remove (first_number t))
 
 -- one of those that a line asks for was made: its answer, and what it left
-abbrev pub MakesCall : Call → State → Result (Unit {0}) Fault → State → Type 0
-MakesCall call old done new = (done ≡ answer call old) × (new ≡ after call old)
+abbrev pub MakesCall : Call → WorkState → Result (Unit {0}) Fault → WorkState → Type 0
+MakesCall call old done new = (done ≡ call_answer call old) × (new ≡ state_after call old)
 
 -- load BYTES
-abbrev pub MakesLoad : List ℕ → State → Result (Unit {0}) Fault → State → Type 0
+abbrev pub MakesLoad : List ℕ → WorkState → Result (Unit {0}) Fault → WorkState → Type 0
 MakesLoad t old done new = (bs : List ℕ) × (IsSaidBy (argument t) bs × MakesCall (load bs) old done new)
 
 -- store CELL ROW BYTES
-abbrev pub MakesStore : List ℕ → State → Result (Unit {0}) Fault → State → Type 0
+abbrev pub MakesStore : List ℕ → WorkState → Result (Unit {0}) Fault → WorkState → Type 0
 MakesStore t old done new =
     (bs : List ℕ) × (IsSaidBy (argument (after_argument (after_argument t))) bs
     × MakesCall (edit (store (first_number t) (second_number t) bs)) old done new)
 
 -- lengthen BLOCK BYTES
-abbrev pub MakesLengthen : List ℕ → State → Result (Unit {0}) Fault → State → Type 0
+abbrev pub MakesLengthen : List ℕ → WorkState → Result (Unit {0}) Fault → WorkState → Type 0
 MakesLengthen t old done new =
     (bs : List ℕ) × (IsSaidBy (argument (after_argument t)) bs × MakesCall (edit (lengthen (first_number t) bs)) old done new)
 
 -- carry KEY BYTES
-abbrev pub MakesCarry : List ℕ → State → Result (Unit {0}) Fault → State → Type 0
+abbrev pub MakesCarry : List ℕ → WorkState → Result (Unit {0}) Fault → WorkState → Type 0
 MakesCarry t old done new =
     (key : List ℕ) × ((body : List ℕ) × (IsSaidBy (argument t) key × IsSaidBy (argument (after_argument t)) body
     × MakesCall (edit (carry key body)) old done new))
 
 -- the edit of that name, as the arguments after it ask; of the blocks of a kind, and of the values
 -- of a raise, nothing is said here
-abbrev pub MakesEdit : Edit → List ℕ → State → Result (Unit {0}) Fault → State → Type 0
+abbrev pub MakesEdit : Edit → List ℕ → WorkState → Result (Unit {0}) Fault → WorkState → Type 0
 MakesEdit Load t old done new = MakesLoad t old done new
 MakesEdit Set t old done new = MakesCall (set_call t) old done new
 MakesEdit Store t old done new = MakesStore t old done new

@@ -2,6 +2,7 @@
 ghost use Rattle.std.specs.Prelude.{⊤, IfOk};
 ghost use Rattle.editor.specs.Calls.{view};
 ghost use Rattle.session.specs.LineCalls.{MakesCall, set_call, remove_call, MakesLoad, MakesStore, MakesLengthen, MakesCarry, MakesEdit};
+ghost use Rattle.script.specs.Rest.{rest_of};
 
 use crate::names::Edit;
 use calls::{
@@ -73,7 +74,7 @@ fn carry<'a>(
     file: &mut WorkingFile<'_>,
     mut arguments: Arguments<'a>,
 ) -> Edited<'a>
-    ensures { IfOk result (λ done. MakesCarry arguments.entry.rest.now (view file.old) done (view file.new)) }
+    ensures { IfOk result (λ done. MakesCarry (rest_of arguments.entry) (view file.old) done (view file.new)) }
 {
     let key = key_of(next_bytes(rt, &mut arguments)?.as_slice())?;
     let body = only_bytes(rt, arguments)?;
@@ -86,7 +87,7 @@ fn lengthen<'a>(
     file: &mut WorkingFile<'_>,
     mut arguments: Arguments<'a>,
 ) -> Edited<'a>
-    ensures { IfOk result (λ done. MakesLengthen arguments.entry.rest.now (view file.old) done (view file.new)) }
+    ensures { IfOk result (λ done. MakesLengthen (rest_of arguments.entry) (view file.old) done (view file.new)) }
 {
     let number = arguments.number()?;
     let more = only_bytes(rt, arguments)?;
@@ -99,7 +100,7 @@ fn store<'a>(
     file: &mut WorkingFile<'_>,
     mut arguments: Arguments<'a>,
 ) -> Edited<'a>
-    ensures { IfOk result (λ done. MakesStore arguments.entry.rest.now (view file.old) done (view file.new)) }
+    ensures { IfOk result (λ done. MakesStore (rest_of arguments.entry) (view file.old) done (view file.new)) }
 {
     let cell = arguments.number()?;
     let row = arguments.number()?;
@@ -109,7 +110,7 @@ fn store<'a>(
 
 /// Sets a field.
 fn set<'a>(file: &mut WorkingFile<'_>, mut arguments: Arguments<'a>) -> Edited<'a>
-    ensures { IfOk result (λ done. MakesCall (set_call arguments.entry.rest.now) (view file.old) done (view file.new)) }
+    ensures { IfOk result (λ done. MakesCall (set_call (rest_of arguments.entry)) (view file.old) done (view file.new)) }
 {
     let number = arguments.number()?;
     let value = only_number(arguments)?;
@@ -128,7 +129,7 @@ fn replace<'a>(
 
 /// Loads a file.
 fn load<'a>(rt: &HostRuntime, file: &mut WorkingFile<'_>, arguments: Arguments<'a>) -> Edited<'a>
-    ensures { IfOk result (λ done. MakesLoad arguments.entry.rest.now (view file.old) done (view file.new)) }
+    ensures { IfOk result (λ done. MakesLoad (rest_of arguments.entry) (view file.old) done (view file.new)) }
 {
     let bytes = only_bytes(rt, arguments)?;
     Ok(file.load(bytes.as_slice()))
@@ -136,7 +137,7 @@ fn load<'a>(rt: &HostRuntime, file: &mut WorkingFile<'_>, arguments: Arguments<'
 
 /// Takes out a block.
 fn remove<'a>(file: &mut WorkingFile<'_>, arguments: Arguments<'a>) -> Edited<'a>
-    ensures { IfOk result (λ done. MakesCall (remove_call arguments.entry.rest.now) (view file.old) done (view file.new)) }
+    ensures { IfOk result (λ done. MakesCall (remove_call (rest_of arguments.entry)) (view file.old) done (view file.new)) }
 {
     Ok(file.remove(only_number(arguments)?))
 }
@@ -148,7 +149,7 @@ pub(crate) fn edit<'a>(
     call: Edit,
     arguments: Arguments<'a>,
 ) -> Edited<'a>
-    ensures { IfOk result (λ done. MakesEdit call arguments.entry.rest.now (view file.old) done (view file.new)) }
+    ensures { IfOk result (λ done. MakesEdit call (rest_of arguments.entry) (view file.old) done (view file.new)) }
 {
     match call {
         Edit::Load => load(rt, file, arguments),

@@ -4,6 +4,7 @@ ghost use Rattle.editor.specs.Calls.{view, file as file_of};
 ghost use Rattle.session.specs.LineCalls.{IsRowAt, start_outcome, field_outcome, row_outcome, block_outcome, AnswersQuestion};
 ghost use Rattle.reader.specs.Answers.{version_answer};
 ghost use Rattle.calls.specs.Outcome.{number_or_refused};
+ghost use Rattle.script.specs.Rest.{rest_of};
 
 use crate::names::Question;
 use calls::{
@@ -54,7 +55,7 @@ fn look<'a>(
 
 /// The row that the next three arguments ask for: level, cell and row.
 fn next_row(arguments: &mut Arguments) -> Result<RowAt, ArgumentError>
-    ensures { IfOk result (IsRowAt arguments.old.rest.now) }
+    ensures { IfOk result (IsRowAt (rest_of arguments.old)) }
 {
     Ok(RowAt {
         level: arguments.number()?,
@@ -65,7 +66,7 @@ fn next_row(arguments: &mut Arguments) -> Result<RowAt, ArgumentError>
 
 /// Place and length of a row.
 fn row<'a>(file: &WorkingFile<'_>, mut arguments: Arguments<'a>) -> Result<Outcome, CallError<'a>>
-    ensures { IfOk result (λ told. told ≡ row_outcome (file_of (view file.now)) arguments.entry.rest.now) }
+    ensures { IfOk result (λ told. told ≡ row_outcome (file_of (view file.now)) (rest_of arguments.entry)) }
 {
     let at = next_row(&mut arguments)?;
     arguments.end()?;
@@ -118,7 +119,7 @@ fn table<'a>(
 
 /// The pattern of a field.
 fn field<'a>(file: &WorkingFile<'_>, mut arguments: Arguments<'a>) -> Result<Outcome, CallError<'a>>
-    ensures { IfOk result (λ told. told ≡ field_outcome (file_of (view file.now)) arguments.entry.rest.now) }
+    ensures { IfOk result (λ told. told ≡ field_outcome (file_of (view file.now)) (rest_of arguments.entry)) }
 {
     let level = arguments.number()?;
     let number = only_number(arguments)?;
@@ -131,7 +132,7 @@ fn field<'a>(file: &WorkingFile<'_>, mut arguments: Arguments<'a>) -> Result<Out
 
 /// A block, by its head.
 fn block<'a>(file: &WorkingFile<'_>, mut arguments: Arguments<'a>) -> Result<Outcome, CallError<'a>>
-    ensures { IfOk result (λ told. told ≡ block_outcome (file_of (view file.now)) arguments.entry.rest.now) }
+    ensures { IfOk result (λ told. told ≡ block_outcome (file_of (view file.now)) (rest_of arguments.entry)) }
 {
     let level = arguments.number()?;
     let number = only_number(arguments)?;
@@ -148,7 +149,7 @@ fn version<'a>(file: &WorkingFile<'_>, arguments: Arguments<'a>) -> Result<Outco
 
 /// Where a reader of a level finds the data.
 fn start<'a>(file: &WorkingFile<'_>, arguments: Arguments<'a>) -> Result<Outcome, CallError<'a>>
-    ensures { IfOk result (λ told. told ≡ start_outcome (file_of (view file.now)) arguments.entry.rest.now) }
+    ensures { IfOk result (λ told. told ≡ start_outcome (file_of (view file.now)) (rest_of arguments.entry)) }
 {
     Ok(file.start(only_number(arguments)?).into())
 }
@@ -160,7 +161,7 @@ pub(crate) fn ask<'a>(
     question: Question,
     arguments: Arguments<'a>,
 ) -> Result<Outcome, CallError<'a>>
-    ensures { IfOk result (AnswersQuestion question (file_of (view file.now)) arguments.entry.rest.now) }
+    ensures { IfOk result (AnswersQuestion question (file_of (view file.now)) (rest_of arguments.entry)) }
 {
     match question {
         Question::Version => version(file, arguments),

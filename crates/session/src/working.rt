@@ -1,7 +1,9 @@
 //! The working file of a run, in a buffer of its own, over which each call makes one anew.
 ghost use Rattle.std.specs.Prelude.{◌≡◌, length, take, drop, IfOk};
-ghost use Rattle.editor.specs.Calls.{made, file};
+ghost use Rattle.editor.specs.Calls.{made_state, file};
+ghost use Rattle.session.specs.Work.{working_size, working_buffer};
 ghost use Rattle.session.specs.LineCalls.{AnswersQuestion};
+ghost use Rattle.script.specs.Rest.{rest_of};
 
 use crate::edits::edit;
 use crate::names::{Edit, Question};
@@ -21,7 +23,7 @@ pub struct Working {
 
 /// How many bytes the file has in the first `size` bytes of a buffer; 0 where they are none.
 fn size_of_file(buffer: &mut [u8], size: usize) -> usize
-    ensures { result ≡ length (file (made buffer.old size)) }
+    ensures { result ≡ length (file (made_state buffer.old size)) }
 {
     WorkingFile::make(buffer, size).bytes().len()
 }
@@ -35,7 +37,7 @@ impl Working {
 
     /// How many bytes the file has; 0 where there is none.
     pub fn size(&self) -> usize
-        ensures { result ≡ self.now.size }
+        ensures { result ≡ working_size self.now }
     {
         self.size
     }
@@ -47,7 +49,7 @@ impl Working {
 
     /// The bytes of the buffer from a place on, so many or as many as there are.
     pub fn bytes(&self, from: usize, count: usize) -> &[u8]
-        ensures { result.now ≡ take count (drop from self.now.room.bytes.items) }
+        ensures { result.now ≡ take count (drop from (working_buffer self.now)) }
     {
         let rest = self.room.bytes.get(from..).unwrap_or(&[]);
         rest.get(..count).unwrap_or(rest)
@@ -87,7 +89,7 @@ impl Working {
         question: Question,
         arguments: Arguments<'a>,
     ) -> Result<Outcome, CallError<'a>>
-        ensures { IfOk result (AnswersQuestion question (file (made self.old.room.bytes.items self.old.size)) arguments.entry.rest.now) }
+        ensures { IfOk result (AnswersQuestion question (file (made_state (working_buffer self.old) (working_size self.old))) (rest_of arguments.entry)) }
     {
         let file = WorkingFile::make(self.room.bytes.as_mut_slice(), self.size);
         ask(heap, &file, question, arguments)

@@ -1,5 +1,5 @@
 //! SITD: a description of the site.
-ghost use Rattle.std.specs.Prelude.{Some, None, codes, refl};
+ghost use Rattle.std.specs.Prelude.{None, codes, refl};
 ghost use Rattle.kinds.proofs.Texts.{text_keeps};
 ghost use Rattle.texts.specs.Sitd.{sitd_kind};
 

@@ -1,13 +1,16 @@
-//! A text that ends before a zero, without numbers. A label says its key and how long it may be; here each is read, measured
-//! and written as a kind.
+//! A text that ends before a zero, without numbers. A label says its key and how long it may be;
+//! here each is read, measured and written as a kind.
 ghost use Rattle.std.specs.Prelude.{◌≡◌, ℕ, List, [], Option};
 ghost use Rattle.kinds.specs.Ended.{text_kind};
-ghost use Rattle.kinds.specs.Kind.{KindSpec, Keeps};
+ghost use Rattle.kinds.specs.Kind.{KindSpec, IsSoundKind};
 ghost use Rattle.std.proofs.Common.{rules};
 
 use faults::Fault;
 use kinds::{Kind, Reading, measure_text, read_text, write_text};
 use std::marker::PhantomData;
+
+/// The limit of a text of at most 255 bytes, 256 with its zero.
+pub(crate) const SHORT_TEXT: Option<usize> = Some(255);
 
 /// What tells one kind of text from another.
 pub trait Label {
@@ -25,7 +28,7 @@ pub trait Label {
 
     ghost ends: { kind ≡ text_kind KEY MOST };
 
-    ghost keeps: { Keeps kind };
+    ghost keeps: { IsSoundKind kind };
 }
 
 /// The kind of text that has this label.
@@ -40,6 +43,8 @@ impl<L: Label> Kind for Text<L> {
     ghost kind = { L.kind };
 
     ghost numbers = { λ x. [] };
+
+    ghost IsRecord = { λ x. Unit {0} };
 
     ghost keeps = { L.keeps };
 

@@ -1,9 +1,10 @@
 //! TOOL: name and version of a program that made or worked on the file.
-ghost use Rattle.std.specs.Prelude.{Some, None, codes, refl};
+ghost use Rattle.std.specs.Prelude.{codes, refl};
 ghost use Rattle.kinds.proofs.Texts.{text_keeps};
+ghost use Rattle.texts.specs.Limit.{short_text};
 ghost use Rattle.texts.specs.Tool.{tool_kind};
 
-use crate::text::{Label, Text};
+use crate::text::{Label, SHORT_TEXT, Text};
 
 /// The kind of a TOOL block.
 pub type Tool = Text<ToolLabel>;
@@ -15,15 +16,15 @@ pub struct ToolLabel;
 impl Label for ToolLabel {
     const KEY: [u8; 4] = *b"TOOL";
 
-    const MOST: Option<usize> = Some(255);
+    const MOST: Option<usize> = SHORT_TEXT;
 
     ghost KEY = { codes "TOOL" };
 
-    ghost MOST = { Some 255 };
+    ghost MOST = { short_text };
 
     ghost kind = { tool_kind };
 
     ghost ends = { refl };
 
-    ghost keeps = { text_keeps (codes "TOOL") (Some 255) refl };
+    ghost keeps = { text_keeps (codes "TOOL") short_text refl };
 }

@@ -1,9 +1,10 @@
 //! ZONE: a label of the time zone.
-ghost use Rattle.std.specs.Prelude.{Some, None, codes, refl};
+ghost use Rattle.std.specs.Prelude.{codes, refl};
 ghost use Rattle.kinds.proofs.Texts.{text_keeps};
+ghost use Rattle.texts.specs.Limit.{short_text};
 ghost use Rattle.texts.specs.Zone.{zone_kind};
 
-use crate::text::{Label, Text};
+use crate::text::{Label, SHORT_TEXT, Text};
 
 /// The kind of a ZONE block.
 pub type Zone = Text<ZoneLabel>;
@@ -15,15 +16,15 @@ pub struct ZoneLabel;
 impl Label for ZoneLabel {
     const KEY: [u8; 4] = *b"ZONE";
 
-    const MOST: Option<usize> = Some(255);
+    const MOST: Option<usize> = SHORT_TEXT;
 
     ghost KEY = { codes "ZONE" };
 
-    ghost MOST = { Some 255 };
+    ghost MOST = { short_text };
 
     ghost kind = { zone_kind };
 
     ghost ends = { refl };
 
-    ghost keeps = { text_keeps (codes "ZONE") (Some 255) refl };
+    ghost keeps = { text_keeps (codes "ZONE") short_text refl };
 }

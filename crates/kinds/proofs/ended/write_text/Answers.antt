@@ -1,3 +1,4 @@
+-- A text and its zero, written one after the other, are what writing the text leaves.
 use Rattle.std.proofs.Common.{◌≡◌, ◌+◌, length, arith, rules}
 use Rattle.kinds.proofs.Texts.{text_wrote, text_size}
 use Rattle.kinds.proofs.ended.write_text.Goals as goal

@@ -1,10 +1,13 @@
-use Rattle.std.proofs.Common.{List, ap, ◌∙◌}
-use Rattle.reader.specs.Answers.{block_answer}
+use Rattle.std.proofs.Common.{Ok, rules}
 use Rattle.editor.specs.Calls.{view}
-use Rattle.editor.proofs.ChangePlans.{entry_small}
+use Rattle.editor.proofs.patches.ChangePlans.{found_inside}
+use Rattle.editor.proofs.patches.Planning.{small_of}
 use Rattle.editor.proofs.working.WorkingFile.block_to_edit.Goals as goal
+
+pub returns-clause-small : goal.returns-clause-small
+returns-clause-small c = small_of (view c.args.self.now) c.in_ok-layout.layout c.requires.read (search rules)
 
 pub returns-clause-inside : goal.returns-clause-inside
 returns-clause-inside c =
-    entry_small (view c.args.self.now) c.args.number c.block.result c.judged.ensures.read
-    (c.block.ensures ∙ ap (λ (b : List _). block_answer b 6 c.args.number) c.judged.ensures.bytes)
+    let by = found_inside (view c.args.self.now) c.args.number (Ok (c.in_ok-layout.layout, c.in_ok-entry.entry)) (search rules) in
+    by.0

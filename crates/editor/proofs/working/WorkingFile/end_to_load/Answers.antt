@@ -1,6 +1,6 @@
 use Rattle.std.proofs.Common.{rules}
 use Rattle.editor.specs.Calls.{view}
-use Rattle.editor.proofs.Done.{load_refused, load_over, load_done}
+use Rattle.editor.proofs.calls.Done.{load_refused, load_over, load_done}
 use Rattle.editor.proofs.working.WorkingFile.end_to_load.Goals as goal
 
 pub returns-in_err-judge-clause-answer : goal.returns-in_err-judge-clause-answer

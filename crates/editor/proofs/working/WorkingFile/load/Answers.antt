@@ -1,8 +1,8 @@
 use Rattle.std.proofs.Common.{◌<◌, rules, arith}
 use Rattle.std.proofs.ByRecursion.{All-from_get_or}
 use Rattle.editor.specs.Calls.{view, load}
-use Rattle.editor.proofs.Done.{refused_stays, load_leaves}
-use Rattle.editor.proofs.Held.{end_inside}
+use Rattle.editor.proofs.calls.Done.{refused_stays, load_leaves}
+use Rattle.editor.proofs.calls.Held.{end_inside}
 use Rattle.editor.proofs.working.WorkingFile.load.Goals as goal
 
 pub returns-in_err-old-clause-after : goal.returns-in_err-old-clause-after

@@ -1,6 +1,12 @@
+use Rattle.std.proofs.Common.{rules}
 use Rattle.editor.specs.Calls.{view}
-use Rattle.editor.proofs.ChangePlans.{lengthen_planned}
+use Rattle.editor.proofs.patches.ChangePlans.{lengthen_planned}
 use Rattle.editor.proofs.working.WorkingFile.plan_lengthen.Goals as goal
 
-pub returns : goal.returns
-returns c = lengthen_planned (view c.args.self.now) c.args.number c.args.more.now c.patch_longer.result c.patch_longer.ensures.read c.patch_longer.ensures.patch
+pub returns-in_err-layout-clause-planned : goal.returns-in_err-layout-clause-planned
+returns-in_err-layout-clause-planned c =
+    lengthen_planned (view c.args.self.now) c.args.number c.args.more.now c.from_residual.result c.judged.ensures.read (search rules)
+
+pub returns-clause-planned : goal.returns-clause-planned
+returns-clause-planned c =
+    lengthen_planned (view c.args.self.now) c.args.number c.args.more.now c.patch.result c.judged.ensures.read (search rules)

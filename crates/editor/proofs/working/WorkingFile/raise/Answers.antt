@@ -1,7 +1,7 @@
 use Rattle.std.proofs.Common.{◌<◌, rules, arith}
 use Rattle.std.proofs.ByRecursion.{All-from_get_or}
 use Rattle.editor.specs.Calls.{view}
-use Rattle.editor.proofs.RaisedDone.{raise_by}
+use Rattle.editor.proofs.raised.RaisedDone.{raise_by}
 use Rattle.editor.proofs.working.WorkingFile.raise.Goals as goal
 
 pub returns-in_err-layout-clause-answer : goal.returns-in_err-layout-clause-answer
@@ -41,13 +41,6 @@ put_raised-requires-clause-inside c =
 
 pub put_raised-requires-clause-room : goal.put_raised-requires-clause-room
 put_raised-requires-clause-room c =
-    let found = c.layout_to_raise in
-    let given = All-from_get_or (λ x. x < 4294967296) c.args.values.now 0 (λ i l. omega (arith, c.type_inv.values i)) in
-    let by = raise_by (view c.args.self.now) c.args.values.now found.result found.ensures.read found.ensures.layout given in
-    search rules
-
-pub put_raised-requires-clause-count : goal.put_raised-requires-clause-count
-put_raised-requires-clause-count c =
     let found = c.layout_to_raise in
     let given = All-from_get_or (λ x. x < 4294967296) c.args.values.now 0 (λ i l. omega (arith, c.type_inv.values i)) in
     let by = raise_by (view c.args.self.now) c.args.values.now found.result found.ensures.read found.ensures.layout given in

@@ -1,6 +1,6 @@
 use Rattle.std.proofs.Common.{rules}
 use Rattle.editor.specs.Calls.{view}
-use Rattle.editor.proofs.Done.{set_by}
+use Rattle.editor.proofs.calls.Done.{set_by}
 use Rattle.editor.proofs.working.WorkingFile.set.Goals as goal
 
 pub returns-in_err-place-clause-answer : goal.returns-in_err-place-clause-answer

@@ -1,7 +1,7 @@
 use Rattle.std.proofs.Common.{◌<◌, rules, arith}
 use Rattle.std.proofs.ByRecursion.{All-from_get_or}
 use Rattle.editor.specs.Calls.{view}
-use Rattle.editor.proofs.Done.{store_by}
+use Rattle.editor.proofs.calls.Done.{store_by}
 use Rattle.editor.proofs.working.WorkingFile.store.Goals as goal
 
 pub returns-in_err-place-clause-answer : goal.returns-in_err-place-clause-answer

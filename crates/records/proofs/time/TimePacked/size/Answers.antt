@@ -1,3 +1,4 @@
+-- The numbers of a TIME fit their parts.
 use Rattle.std.proofs.Common.{rules}
 use Rattle.std.proofs.lemmas.Bool.{and_from, lt-ltb}
 use Rattle.records.proofs.time.TimePacked.size.Goals as goal

@@ -1,3 +1,4 @@
+-- A text is written as its label's kind writes it.
 use Rattle.std.proofs.Common.{[], sym, ap, rules}
 use Rattle.kinds.specs.Kind.{put_buffer}
 use Rattle.texts.proofs.text.TextKind.write.Goals as goal

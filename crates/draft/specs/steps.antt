@@ -1,0 +1,3 @@
+-- What only the contracts of private functions need.
+pub mod Headers
+pub mod Blocks

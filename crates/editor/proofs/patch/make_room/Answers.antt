@@ -1,8 +1,0 @@
-use Rattle.std.proofs.Common.{rules}
-use Rattle.headers.proofs.Written.{following_written}
-use Rattle.editor.proofs.patch.make_room.Goals as goal
-
-pub returns : goal.returns
-returns c =
-    let settled = following_written c.open.new.buffer c.write_following.new.buffer c.args.patch.start c.args.patch.section (search rules) c.requires.start_from (search rules) c.write_following.ensures.buffer in
-    search rules
