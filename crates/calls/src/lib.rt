@@ -16,7 +16,7 @@ pub use drafting::Drafting;
 pub use errors::{CallError, ScriptError};
 pub use files::{ReadError, WriteError, check_free, read_file, write_whole};
 pub use lines::Line;
-pub use listed::{Word, bytes_text, entries_text, patterns_text, reading_text};
+pub use listed::{HexWord, bytes_text, entries_text, patterns_text, reading_text};
 pub use named::{ForKind, by_key};
 pub use outcome::{Answer, Outcome};
 pub use room::Room;

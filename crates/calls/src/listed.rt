@@ -10,11 +10,11 @@ use std::fmt;
 
 /// A byte, as two hexadecimal digits.
 #[derive(Clone, Copy, PartialEq, Eq, Debug)]
-struct Byte(u8);
+struct HexByte(u8);
 
 /// A number of 32 bits, as eight hexadecimal digits.
 #[derive(Clone, Copy, PartialEq, Eq, Debug)]
-pub struct Word(pub u32);
+pub struct HexWord(pub u32);
 
 /// A number below 16 as a hexadecimal digit.
 fn digit(number: u8) -> char
@@ -28,7 +28,7 @@ fn digit(number: u8) -> char
     }
 }
 
-impl fmt::Display for Byte {
+impl fmt::Display for HexByte {
     ghost output = { λ x. Some (byte_text x.0) };
 
     fn fmt<W: fmt::Write>(&self, f: &mut fmt::Formatter<W>) -> fmt::Result {
@@ -38,11 +38,11 @@ impl fmt::Display for Byte {
     }
 }
 
-impl fmt::Display for Word {
+impl fmt::Display for HexWord {
     ghost output = { λ x. Some (word_text x.0) };
 
     fn fmt<W: fmt::Write>(&self, f: &mut fmt::Formatter<W>) -> fmt::Result {
-        let [a, b, c, d] = self.0.to_be_bytes().map(Byte);
+        let [a, b, c, d] = self.0.to_be_bytes().map(HexByte);
         write!(f, "{a}{b}{c}{d}")
     }
 }
@@ -67,7 +67,7 @@ pub fn patterns_text(heap: Global, patterns: &[u32]) -> Result<String, AllocErro
 {
     let mut text = String::new(heap);
     for pattern in patterns {
-        let word = Word(*pattern);
+        let word = HexWord(*pattern);
         let more = format!(in heap; " {word}")?;
         text.push_str(more.as_str())?;
     }
@@ -80,7 +80,7 @@ pub fn entries_text(heap: Global, entries: &[Entry]) -> Result<String, AllocErro
 {
     let mut text = format!(in heap; " {}", entries.len())?;
     for entry in entries {
-        let key = Word(entry.key);
+        let key = HexWord(entry.key);
         let more = format!(in heap; " {key} {} {}", entry.place, entry.size)?;
         text.push_str(more.as_str())?;
     }

@@ -2,7 +2,7 @@
 ghost use Rattle.std.specs.Prelude.{◌≡◌, Some};
 ghost use Rattle.calls.specs.Outcome.{answer_text, outcome_of, number_or_refused, span_or_refused, head_or_refused, judged_or_refused};
 
-use crate::listed::Word;
+use crate::listed::HexWord;
 use faults::Fault;
 use format::Layout;
 use reader::Entry;
@@ -125,7 +125,7 @@ impl fmt::Display for Answer<'_> {
             Outcome::Head(entry) => write!(
                 f,
                 "{line} {verb} ok {} {} {}",
-                Word(entry.key),
+                HexWord(entry.key),
                 entry.place,
                 entry.size,
             ),

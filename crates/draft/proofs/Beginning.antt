@@ -9,7 +9,7 @@ use Rattle.format.specs.Header.{header_end}
 use Rattle.draft.specs.declared.start.Start.{Start}
 use Rattle.draft.specs.Drafts.{begin_conditions, begun_content, begin_outcome}
 use Rattle.format.specs.InBuffer.{within_capacity}
-use Rattle.draft.specs.Law.{Stands, DraftLaw}
+use Rattle.draft.specs.Law.{IsDraftOf, DraftLaw}
 use Rattle.draft.specs.Stages.{Numbers, draft_state}
 use Rattle.draft.proofs.Opened.{Opened}
 use Rattle.draft.proofs.Runs.{law}
@@ -37,5 +37,5 @@ first_bytes : (b x : List ℕ) → take (length x) (written b 0 x) ≡ x
 unfolding written
 first_bytes b x = take_at x _ (length x) refl
 
-pub begun_law : (b a : List ℕ) (s : Start) (xs : List ℕ) (d : Numbers) → d.laid ≡ 0 → Stands (begun_content s xs) d → a ≡ written b 0 (write (begun_content s xs)) → DraftLaw (begun_content s xs) (draft_state d a)
+pub begun_law : (b a : List ℕ) (s : Start) (xs : List ℕ) (d : Numbers) → d.laid ≡ 0 → IsDraftOf (begun_content s xs) d → a ≡ written b 0 (write (begun_content s xs)) → DraftLaw (begun_content s xs) (draft_state d a)
 begun_law b a s xs d none st e = law (begun_content s xs) (draft_state d a) none st (ap (take (length (write (begun_content s xs)))) e ∙ first_bytes b (write (begun_content s xs)))

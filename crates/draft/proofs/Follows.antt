@@ -24,24 +24,24 @@ use Rattle.format.specs.Conditions.{as_long}
 use Rattle.editor.proofs.calls.Held.{same_ok, with_ok, not_both}
 use Rattle.editor.proofs.laws.KeptBlocks.{late_from, wrote_is}
 use Rattle.draft.specs.Drafts.{Step, put, carried, lay, lay_conditions, cells_laid, step_outcome, step_content}
-use Rattle.draft.specs.Law.{Stands, Begins, IsStepGiven, Follows, content_after}
+use Rattle.draft.specs.Law.{IsDraftOf, BeginsWith, IsStepGiven, IsFollowing, content_after}
 use Rattle.draft.specs.Stages.{Numbers, DraftState, step_answer, draft_after, step_done, if_passed, block_room_answer, end_with_block, with_block_put}
 use Rattle.draft.proofs.Added.{Bare, filled_sound, file_begins, begins_file, last_long, last_in_buffer, last_growing, cells_long, cells_in_buffer, cells_growing}
 
 -- no cells are laid yet
-none_laid : (c : Content) (d : Numbers) → Stands c d → d.laid ≡ 0 → c.cells ≡ []
+none_laid : (c : Content) (d : Numbers) → IsDraftOf c d → d.laid ≡ 0 → c.cells ≡ []
 none_laid c d s none = empty c.cells (s.laid_is ∙ ap (λ (n : ℕ). n * d.cell) none ∙ omega arith)
   where
     empty : (x : List ℕ) → length x ≡ 0 → x ≡ []
     empty [] e = refl
     empty (y ∷ ys) e = absurd (omega arith)
 
-bare : (c : Content) (d : Numbers) → Stands c d → d.laid ≡ 0 → 6 ≤ c.version → Bare c
+bare : (c : Content) (d : Numbers) → IsDraftOf c d → d.laid ≡ 0 → 6 ≤ c.version → Bare c
 bare c d s none late =
     record { growing = s.growing; no_gap = s.no_gap; no_cells = none_laid c d s none; no_tail = s.no_tail; late = late }
 
 -- ---- what is done with a block
-module _ (c : Content) (s : DraftState) (key body : List ℕ) (four : length key ≡ 4) (st : Stands c s.draft) (none : s.draft.laid ≡ 0) (late : 6 ≤ c.version) where
+module _ (c : Content) (s : DraftState) (key body : List ℕ) (four : length key ≡ 4) (st : IsDraftOf c s.draft) (none : s.draft.laid ≡ 0) (late : 6 ≤ c.version) where
   b : Bare c
   b = bare c s.draft st none late
 
@@ -49,7 +49,7 @@ module _ (c : Content) (s : DraftState) (key body : List ℕ) (four : length key
   pub block_length : end_with_block s.draft (length body) ≡ length (write (with_last c (block key body)))
   block_length = ap (λ (n : ℕ). n + (8 + length body)) st.size_is ∙ sym (last_long c (block key body) four b)
 
-  pub block_stands : Bytes key → Bytes body → length (write (with_last c (block key body))) ≤ 1073741824 → Stands (with_last c (block key body)) (with_block_put s key body).draft
+  pub block_stands : Bytes key → Bytes body → length (write (with_last c (block key body))) ≤ 1073741824 → IsDraftOf (with_last c (block key body)) (with_block_put s key body).draft
   block_stands k d within_capacity =
       record {
         growing = last_growing c (block key body) four b k d within_capacity;
@@ -72,11 +72,11 @@ module _ (c : Content) (s : DraftState) (key body : List ℕ) (four : length key
 one_more : (n m : ℕ) → n * m + m ≡ (n + 1) * m
 one_more n m = let next : suc n ≡ n + 1 = omega arith in sym (suc-mul n m) ∙ ap (λ (k : ℕ). k * m) next
 
-module _ (c : Content) (s : DraftState) (more : List ℕ) (st : Stands c s.draft) (fits : length more ≡ s.draft.cell) where
+module _ (c : Content) (s : DraftState) (more : List ℕ) (st : IsDraftOf c s.draft) (fits : length more ≡ s.draft.cell) where
   pub cell_length : s.draft.size + s.draft.cell ≡ length (write (with_cells c (c.cells ++ more)))
   cell_length = ap (λ (n : ℕ). n + s.draft.cell) st.size_is ∙ ap (λ (n : ℕ). length (write c) + n) (sym fits) ∙ sym (cells_long c more st.no_tail)
 
-  pub cell_stands : Bytes more → s.draft.laid < s.draft.cells → Stands (with_cells c (c.cells ++ more)) (step_done (lay more) s).draft
+  pub cell_stands : Bytes more → s.draft.laid < s.draft.cells → IsDraftOf (with_cells c (c.cells ++ more)) (step_done (lay more) s).draft
   cell_stands b less =
       record {
         growing = cells_growing c more b st.growing;
@@ -105,7 +105,7 @@ wrote_bytes o w e = ap written_bytes (wrote_is o w e)
 measured_bytes : (o : Output) (n : ℕ) → output_length o ≡ Ok n → n ≡ length (written_bytes o)
 measured_bytes o n e = let w = output_length_is o n (sym e) in w.2 ∙ ap (λ (y : Output). length (written_bytes y)) (sym w.1)
 
-module _ (c : Content) (s : DraftState) (st : Stands c s.draft) where
+module _ (c : Content) (s : DraftState) (st : IsDraftOf c s.draft) where
   put_answers : (key : List ℕ) → length key ≡ 4 → s.draft.laid ≡ 0 → (t : Check) → blocks_present c.version ≡ t → (o : Output)
       → (t then (output_length o with λ n. within_capacity (capacity s.buffer) (end_with_block s.draft n)))
       ≡ passed ((t then (output_bytes o with λ w. Ok (with_last c (block key w)))) with λ d. room_for (capacity s.buffer) d then Ok d)
@@ -171,7 +171,7 @@ Early (put new) s = s.draft.laid ≡ 0
 Early (carried key body) s = s.draft.laid ≡ 0
 Early (lay more) s = Unit {0}
 
-pub answers : (step : Step) (s : DraftState) (c : Content) → Keyed step → Early step s → Stands c s.draft → step_answer step s ≡ passed (step_outcome (capacity s.buffer) step c)
+pub answers : (step : Step) (s : DraftState) (c : Content) → Keyed step → Early step s → IsDraftOf c s.draft → step_answer step s ≡ passed (step_outcome (capacity s.buffer) step c)
 answers (put new) s c four none st =
     ap (λ (v : ℕ). blocks_present v then (output_length (payload_output new) with λ n. within_capacity (capacity s.buffer) (end_with_block s.draft n))) st.version_is
     ∙ put_answers c s st new.kind.key four none (blocks_present c.version) refl (payload_output new)
@@ -208,19 +208,19 @@ block_passed s o e =
 
 -- what an accepted call leaves, by its content
 pub record Adds (step : Step) (s : DraftState) (c : Content) : Type 0 where
-  pub stands : Stands (content_after step c) (step_done step s).draft
+  pub stands : IsDraftOf (content_after step c) (step_done step s).draft
   pub written : (before : List ℕ) → s.buffer ≡ with_file before 0 (write c) → (step_done step s).buffer ≡ with_file before 0 (write (content_after step c))
 
-block_adds : (s : DraftState) (c : Content) (key body : List ℕ) → length key ≡ 4 → Bytes key → Bytes body → s.draft.laid ≡ 0 → Stands c s.draft → 6 ≤ s.draft.version
+block_adds : (s : DraftState) (c : Content) (key body : List ℕ) → length key ≡ 4 → Bytes key → Bytes body → s.draft.laid ≡ 0 → IsDraftOf c s.draft → 6 ≤ s.draft.version
     → within_capacity (capacity s.buffer) (end_with_block s.draft (length body)) ≡ Ok tt
-    → Stands (with_last c (block key body)) (with_block_put s key body).draft × ((before : List ℕ) → s.buffer ≡ with_file before 0 (write c) → (with_block_put s key body).buffer ≡ with_file before 0 (write (with_last c (block key body))))
+    → IsDraftOf (with_last c (block key body)) (with_block_put s key body).draft × ((before : List ℕ) → s.buffer ≡ with_file before 0 (write c) → (with_block_put s key body).buffer ≡ with_file before 0 (write (with_last c (block key body))))
 block_adds s c key body four k b none st late room_is =
     let version : 6 ≤ c.version = subst (λ (v : ℕ). 6 ≤ v) st.version_is late in (
       block_stands c s key body four st none version k b (roomy s.buffer _ _ room_is (block_length c s key body four st none version)),
       block_in_buffer c s key body four st none version,
     )
 
-pub accepted_adds : (step : Step) (s : DraftState) (c : Content) → Early step s → Stands c s.draft → step_answer step s ≡ Ok tt → IsStepGiven step → Adds step s c
+pub accepted_adds : (step : Step) (s : DraftState) (c : Content) → Early step s → IsDraftOf c s.draft → step_answer step s ≡ Ok tt → IsStepGiven step → Adds step s c
 accepted_adds (put new) s c none st e given =
     let o = payload_output new in
     let p = block_passed s (output_length o) e in
@@ -241,23 +241,23 @@ accepted_adds (lay more) s c none st e given =
     let both = lay_tells c s st (length more) t.0 in
     record { stands = cell_stands c s more st both.1 given both.0; written = cell_in_buffer c s more st both.1 }
 
-pub follows : (step : Step) (s : DraftState) (c : Content) → Keyed step → Early step s → (step_answer step s ≡ Ok tt → IsStepGiven step) → Stands c s.draft → Follows step s c
+pub follows : (step : Step) (s : DraftState) (c : Content) → Keyed step → Early step s → (step_answer step s ≡ Ok tt → IsStepGiven step) → IsDraftOf c s.draft → IsFollowing step s c
 follows step s c keyed early given st =
     record {
       answers = answers step s c keyed early st;
       adds = λ d e. adds step (capacity s.buffer) c d e;
-      stands = λ e. let a = accepted_adds step s c early st e (given e) in subst (λ (t : DraftState). Stands (content_after step c) t.draft) (sym (left e)) a.stands;
+      stands = λ e. let a = accepted_adds step s c early st e (given e) in subst (λ (t : DraftState). IsDraftOf (content_after step c) t.draft) (sym (left e)) a.stands;
       begins = λ e begins. let a = accepted_adds step s c early st e (given e) in
           let w = a.written s.buffer (begins_file s.buffer (write c) begins) in
-          subst (λ (t : DraftState). Begins (content_after step c) t.buffer) (sym (left e)) (file_begins (step_done step s).buffer s.buffer (write (content_after step c)) w);
+          subst (λ (t : DraftState). BeginsWith (content_after step c) t.buffer) (sym (left e)) (file_begins (step_done step s).buffer s.buffer (write (content_after step c)) w);
     }
   where
     left : step_answer step s ≡ Ok tt → draft_after step s ≡ step_done step s
     left e = ap (λ (a : Check). if_passed a (step_done step s) s) e
 
 -- the same of a call that is refused, and of one whose arguments are known
-pub follows_refused : (step : Step) (s : DraftState) (f : Fault) → Keyed step → Early step s → Err f ≡ step_answer step s → (c : Content) → Stands c s.draft → Follows step s c
+pub follows_refused : (step : Step) (s : DraftState) (f : Fault) → Keyed step → Early step s → Err f ≡ step_answer step s → (c : Content) → IsDraftOf c s.draft → IsFollowing step s c
 follows_refused step s f keyed early r c st = follows step s c keyed early (λ e. absurd (not_both tt f (r ∙ e))) st
 
-pub follows_given : (step : Step) (s : DraftState) → Keyed step → Early step s → IsStepGiven step → (c : Content) → Stands c s.draft → Follows step s c
+pub follows_given : (step : Step) (s : DraftState) → Keyed step → Early step s → IsStepGiven step → (c : Content) → IsDraftOf c s.draft → IsFollowing step s c
 follows_given step s keyed early given c st = follows step s c keyed early (λ e. given) st

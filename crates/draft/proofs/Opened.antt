@@ -14,11 +14,11 @@ use Rattle.format.specs.Sizes.{most_ranges, most_bins, kind_has_quality}
 use Rattle.headers.specs.Extents.{with_following}
 use Rattle.headers.specs.Fields.{fields_filled, values_for, filled_values, with_fields}
 use Rattle.headers.proofs.Plain.{Fits, put_plain}
-use Rattle.editor.proofs.raised.RaisedFields.{Fitting, fit_of}
+use Rattle.editor.proofs.raised.RaisedFields.{Fitting, fit_of, value_fits}
 use Rattle.draft.specs.declared.start.Start.{Start}
 use Rattle.draft.specs.Drafts.{begin_given, begin_filling, start_sizes, begun_content}
 use Rattle.draft.specs.steps.Headers.{with_begun}
-use Rattle.draft.specs.Law.{IsGrowing, Stands}
+use Rattle.draft.specs.Law.{IsGrowing, IsDraftOf}
 use Rattle.draft.specs.Stages.{Numbers}
 use Rattle.draft.proofs.Begun.{with_version, plain_written}
 use Rattle.draft.proofs.Versions.{by_version}
@@ -27,10 +27,6 @@ use Rattle.draft.proofs.Versions.{by_version}
 Takes : Start → ℕ → Bool → Type 0
 Takes s n true = 2 ^ 32 ≤ limit (the_field n).width
 Takes s n false = begin_given s n < limit (the_field n).width
-
-value_fits : (xs : List ℕ) → AllByRecursion (λ x. x < 2 ^ 32) xs → get_or xs 0 0 < 2 ^ 32
-value_fits [] h = omega arith
-value_fits (x ∷ xs) h = h.0
 
 below : (a b c : ℕ) → a < b → b ≤ c → a < c
 below a b c h k = omega arith
@@ -170,7 +166,7 @@ growing s xs from to bins ranges o =
 
 -- the numbers of such a draft
 pub stands_begun : (s : Start) (xs : List ℕ) (d : Numbers) → 4 ≤ s.version → s.version ≤ 6 → (1 ≤ s.bins) × (s.bins ≤ most_bins) → (1 ≤ s.ranges) × (s.ranges ≤ most_ranges) → Opened s xs
-    → d.version ≡ s.version → d.cells ≡ s.ranges → d.cell ≡ cell_size (start_sizes s) → d.size ≡ header_end s.version → d.laid ≡ 0 → Stands (begun_content s xs) d
+    → d.version ≡ s.version → d.cells ≡ s.ranges → d.cell ≡ cell_size (start_sizes s) → d.size ≡ header_end s.version → d.laid ≡ 0 → IsDraftOf (begun_content s xs) d
 stands_begun s xs d from to bins ranges o v n c z l =
     record {
       growing = growing s xs from to bins ranges o;

@@ -15,7 +15,7 @@ use Rattle.format.proofs.Rules.{Rules, judged_tells}
 use Rattle.format.proofs.Trip.{written_read}
 use Rattle.editor.proofs.calls.Held.{not_both, ok_is, same_ok}
 use Rattle.draft.specs.Drafts.{Step, put, carried, lay}
-use Rattle.draft.specs.Law.{Stands, IsStepGiven, Stage, at_blocks, at_cells, closed, stage_of, close_stage, DraftEvent, DraftRun, stop, call, turn, close, content_entered, content_of_run, IsDrafted, IsClosedFile, DraftLaw}
+use Rattle.draft.specs.Law.{IsDraftOf, IsStepGiven, Stage, at_blocks, at_cells, closed, stage_of, close_stage, DraftEvent, DraftRun, stop, call, turn, close, content_entered, content_of_run, IsDrafted, IsClosedFile, DraftLaw}
 use Rattle.draft.specs.Stages.{Numbers, DraftState, step_answer, step_done, if_passed, close_answer}
 use Rattle.draft.proofs.Added.{file_begins, begins_file}
 use Rattle.draft.proofs.Follows.{Early, accepted_adds}
@@ -75,7 +75,7 @@ closed_whole d n e = by (ltb d.laid d.cells) refl e
     by true q e = absurd (not_both n (fault CellCount d.laid) e)
     by false q e = (ltb-false d.laid d.cells q, same_ok d.size n e)
 
-all_cells : (c : Content) (d : Numbers) → Stands c d → d.cells ≤ d.laid → length c.cells ≡ cells_size (content_sizes c)
+all_cells : (c : Content) (d : Numbers) → IsDraftOf c d → d.cells ≤ d.laid → length c.cells ≡ cells_size (content_sizes c)
 all_cells c d st all =
     let few = st.few in
     let is : d.laid ≡ d.cells = omega arith in
@@ -101,7 +101,7 @@ whole c before t n e d =
     record { sound = sound; size_is = size; written = all; layout = a.0.0; accepted = a.0.1; content_is = a.1 }
 
 -- the law, of a draft that begins its buffer
-pub law : (c : Content) (s : DraftState) → s.draft.laid ≡ 0 → Stands c s.draft → take (length (write c)) s.buffer ≡ write c → DraftLaw c s
+pub law : (c : Content) (s : DraftState) → s.draft.laid ≡ 0 → IsDraftOf c s.draft → take (length (write c)) s.buffer ≡ write c → DraftLaw c s
 unfolding At
 law c s none st e =
     let d : IsDrafted c s.buffer s = record { stands = st; written = begins_file s.buffer (write c) e } in

@@ -24,7 +24,7 @@ pub record IsGrowing (c : Content) : Type 0 where
       → IsSound (with_cells c cells)
 
 -- the numbers of a draft whose content so far is c
-pub record Stands (c : Content) (d : Numbers) : Type 0 where
+pub record IsDraftOf (c : Content) (d : Numbers) : Type 0 where
   pub growing : IsGrowing c
   pub no_gap : c.gap ≡ []
   pub no_tail : c.tail ≡ []
@@ -36,8 +36,8 @@ pub record Stands (c : Content) (d : Numbers) : Type 0 where
   pub few : d.laid ≤ d.cells
 
 -- the first bytes of a buffer are the writing of c
-abbrev pub Begins : Content → List ℕ → Type 0
-Begins c b = take (length (write c)) b ≡ write c
+abbrev pub BeginsWith : Content → List ℕ → Type 0
+BeginsWith c b = take (length (write c)) b ≡ write c
 
 -- the arguments of a call: bytes, a key of four bytes, and a kind whose writing gives bytes
 abbrev pub IsStepGiven : Step → Type 0
@@ -100,7 +100,7 @@ content_of_run c (closing r ∷ es) = content_of_run c es
 -- a draft with the content c so far: the writing of c stands in the buffer, and behind it what
 -- stood there before
 pub record IsDrafted (c : Content) (before : List ℕ) (s : DraftState) : Type 0 where
-  pub stands : Stands c s.draft
+  pub stands : IsDraftOf c s.draft
   pub written : s.buffer ≡ with_file before 0 (write c)
 
 -- a closed draft of n bytes: they are the writing of the sound content c, and judging accepts them
@@ -122,15 +122,15 @@ pub record DraftLaw (c : Content) (s : DraftState) : Type 0 where
 
 -- a draft of that content, and what closing it answered
 pub record IsEnded (c : Content) (closing : Result ℕ Fault) (b : List ℕ) : Type 0 where
-  pub begins : Begins c b
+  pub begins : BeginsWith c b
   pub whole : IfOk closing (λ n. IsClosedFile c n b)
 
 -- what a call on a draft with the content c so far answers and leaves: what the definition of
 -- drafts says of that content, and a buffer that begins with it begins with the new one
-pub record Follows (step : Step) (s : DraftState) (c : Content) : Type 0 where
+pub record IsFollowing (step : Step) (s : DraftState) (c : Content) : Type 0 where
   pub answers : step_answer step s ≡ passed (step_outcome (capacity s.buffer) step c)
   pub adds : (d : Content) → step_outcome (capacity s.buffer) step c ≡ Ok d
       → d ≡ content_after step c
-  pub stands : step_answer step s ≡ Ok tt → Stands (content_after step c) (draft_after step s).draft
-  pub begins : step_answer step s ≡ Ok tt → Begins c s.buffer
-      → Begins (content_after step c) (draft_after step s).buffer
+  pub stands : step_answer step s ≡ Ok tt → IsDraftOf (content_after step c) (draft_after step s).draft
+  pub begins : step_answer step s ≡ Ok tt → BeginsWith c s.buffer
+      → BeginsWith (content_after step c) (draft_after step s).buffer

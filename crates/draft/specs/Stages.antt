@@ -49,14 +49,7 @@ of_cells s =
 
 -- the numbers with another size and count of cells laid
 abbrev pub grown_numbers : Numbers → ℕ → ℕ → Numbers
-grown_numbers n size laid =
-    record {
-      version = n.version;
-      cells = n.cells;
-      cell = n.cell;
-      size = size;
-      laid = laid;
-    }
+grown_numbers n size laid = record n { size = size; laid = laid }
 
 -- a draft, and the buffer that its call is handed
 pub record DraftState : Type 0 where

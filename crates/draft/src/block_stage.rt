@@ -10,7 +10,7 @@ ghost use Rattle.editor.specs.Calls.{edit};
 ghost use Rattle.format.specs.InBuffer.{most_bytes, capacity};
 ghost use Rattle.editor.specs.Law.{IsGiven};
 ghost use Rattle.draft.specs.Drafts.{put, carried, begun_content, begin_outcome};
-ghost use Rattle.draft.specs.Law.{Stands, DraftLaw, Follows};
+ghost use Rattle.draft.specs.Law.{IsDraftOf, DraftLaw, IsFollowing};
 ghost use Rattle.draft.specs.Stages.{of_blocks, of_cells, draft_state, grown_numbers, end_with_block, block_room_answer, step_answer, draft_after, begun_buffer};
 ghost use Rattle.draft.specs.steps.Blocks.{with_head};
 
@@ -38,7 +38,7 @@ impl BlockStage {
             ≡ passed (begin_outcome (capacity buffer.old) start values.now) }
         ensures buffer { buffer.new
             ≡ begun_buffer buffer.old (begin_outcome (capacity buffer.old) start values.now) }
-        ensures stage { IfOk result (λ s. Stands (begun_content start values.now) (of_blocks s)) }
+        ensures stage { IfOk result (λ s. IsDraftOf (begun_content start values.now) (of_blocks s)) }
         ensures law { IfOk result (λ s.
             DraftLaw (begun_content start values.now) (draft_state (of_blocks s) buffer.new)) }
     {
@@ -135,8 +135,8 @@ impl BlockStage {
             ≡ step_answer (put (payload K.kind (K.numbers value) text.now)) (draft_state (of_blocks self.old) buffer.old) }
         ensures after { draft_state (of_blocks self.new) buffer.new
             ≡ draft_after (put (payload K.kind (K.numbers value) text.now)) (draft_state (of_blocks self.old) buffer.old) }
-        ensures content { (c : Content) → Stands c (of_blocks self.old)
-            → Follows (put (payload K.kind (K.numbers value) text.now)) (draft_state (of_blocks self.old) buffer.old) c }
+        ensures content { (c : Content) → IsDraftOf c (of_blocks self.old)
+            → IsFollowing (put (payload K.kind (K.numbers value) text.now)) (draft_state (of_blocks self.old) buffer.old) c }
     {
         let body = self.body_to_put::<K>(buffer, value, text)?;
         let place = self.open(buffer, K::key(), body);
@@ -152,8 +152,8 @@ impl BlockStage {
             ≡ step_answer (carried key body.now) (draft_state (of_blocks self.old) buffer.old) }
         ensures after { draft_state (of_blocks self.new) buffer.new
             ≡ draft_after (carried key body.now) (draft_state (of_blocks self.old) buffer.old) }
-        ensures content { (c : Content) → Stands c (of_blocks self.old)
-            → Follows (carried key body.now) (draft_state (of_blocks self.old) buffer.old) c }
+        ensures content { (c : Content) → IsDraftOf c (of_blocks self.old)
+            → IsFollowing (carried key body.now) (draft_state (of_blocks self.old) buffer.old) c }
     {
         self.check_room(buffer, body.len())?;
         let place = self.open(buffer, key, body.len());

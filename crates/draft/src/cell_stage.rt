@@ -5,7 +5,7 @@ ghost use Rattle.format.specs.Checks.{passed};
 ghost use Rattle.format.specs.Content.{Content};
 ghost use Rattle.format.specs.InBuffer.{most_bytes};
 ghost use Rattle.draft.specs.Drafts.{lay};
-ghost use Rattle.draft.specs.Law.{IsStepGiven, Stands, Follows};
+ghost use Rattle.draft.specs.Law.{IsStepGiven, IsDraftOf, IsFollowing};
 ghost use Rattle.draft.specs.Stages.{of_cells, draft_state, step_answer, draft_after, close_answer};
 
 use crate::stages::CellStage;
@@ -43,8 +43,8 @@ impl CellStage {
         ensures given { IsStepGiven (lay bytes.now) }
         ensures after { draft_state (of_cells result.0) buffer.new
             ≡ draft_after (lay bytes.now) (draft_state (of_cells self) buffer.old) }
-        ensures content { (c : Content) → Stands c (of_cells self)
-            → Follows (lay bytes.now) (draft_state (of_cells self) buffer.old) c }
+        ensures content { (c : Content) → IsDraftOf c (of_cells self)
+            → IsFollowing (lay bytes.now) (draft_state (of_cells self) buffer.old) c }
     {
         let outcome = self.check_lay(buffer, bytes);
         if outcome.is_err() {

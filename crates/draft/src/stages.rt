@@ -1,12 +1,13 @@
 //! The stages of a draft, and what each knows: numbers alone.
 ghost use Rattle.std.specs.Prelude.{◌≡◌, ◌+◌, ◌*◌, ◌≤◌, length, IfOk};
 ghost use Rattle.format.specs.Header.{header_end};
-ghost use Rattle.format.specs.Sizes.{most_ranges, most_bins};
+ghost use Rattle.format.specs.Rows.{most_cell_size};
+ghost use Rattle.format.specs.Sizes.{most_ranges};
 ghost use Rattle.format.specs.InBuffer.{most_bytes, capacity, within_capacity};
 ghost use Rattle.kinds.specs.Kind.{most_written};
 
-use faults::{Fault, Refusal};
-use format::capacity;
+use faults::Fault;
+use format::check_capacity;
 
 /// What a draft knows of its file: numbers alone.
 #[derive(Clone, Copy)]
@@ -20,7 +21,7 @@ pub(crate) struct Draft {
     /// How many bytes are written so far.
     pub(crate) size: usize,
     ghost version_known: { (4 ≤ version) × (version ≤ 6) },
-    ghost cells_known: { (cells ≤ most_ranges) × (cell ≤ most_bins * 40) },
+    ghost cells_known: { (cells ≤ most_ranges) × (cell ≤ most_cell_size) },
     ghost size_known: { (header_end version ≤ size) × (size ≤ most_bytes) },
 }
 
@@ -48,10 +49,7 @@ impl Draft {
             × (self.size + added ≤ most_bytes)) }
     {
         let size = self.size + added;
-        if size > capacity(buffer) {
-            return Err(Fault::at(Refusal::Capacity, size));
-        }
-        Ok(())
+        check_capacity(buffer, size)
     }
 
     /// The same with so many bytes written.

@@ -6,15 +6,15 @@ ghost use Rattle.reader.specs.Laws.{ReadFile};
 ghost use Rattle.editor.specs.Calls.{view, file, edit, call_answer, state_after};
 ghost use Rattle.editor.specs.Edits.{add, carry, lengthen, replace, remove};
 ghost use Rattle.editor.specs.Law.{IsGiven};
-ghost use Rattle.editor.specs.steps.Patches.{SmallFile, layout_with_blocks, block_to_edit, patch_of, patch_behind};
+ghost use Rattle.editor.specs.steps.Patches.{IsSmallFile, layout_with_blocks, block_to_edit, patch_of, patch_behind};
 ghost use Rattle.editor.specs.steps.Patches.{add_patch, last_patch, longer_patch, replace_patch, less_patch};
-ghost use Rattle.editor.specs.steps.Patches.{AddPlanned, CarryPlanned, LengthenPlanned, ReplacePlanned, RemovePlanned};
+ghost use Rattle.editor.specs.steps.Patches.{IsAddPlan, IsCarryPlan, IsLengthenPlan, IsReplacePlan, IsRemovePlan};
 
 use crate::patch::Patch;
 use crate::working::WorkingFile;
 use buffers::write_bytes;
 use faults::{Fault, Refusal};
-use format::{BlockHead, Layout, SECTION_BEGIN, capacity};
+use format::{BlockHead, Layout, SECTION_BEGIN, check_capacity};
 use kinds::{Kind, write_at};
 use reader::{Entry, JudgedFile};
 
@@ -29,14 +29,12 @@ impl<'a> WorkingFile<'a> {
         head: usize,
         body: usize,
     ) -> Result<Patch, Fault>
-        requires small { SmallFile (view self.now) layout }
+        requires small { IsSmallFile (view self.now) layout }
         requires added { added ≤ 8 + most_written }
         ensures { result ≡ patch_of (view self.now) layout at removed added head body }
     {
         let size = (self.size + added).saturating_sub(removed);
-        if size > capacity(self.buffer) {
-            return Err(Fault::at(Refusal::Capacity, size));
-        }
+        check_capacity(self.buffer, size)?;
         let start = (layout.start + added).saturating_sub(removed);
         let section = (layout.section + added).saturating_sub(removed);
         Ok(Patch {
@@ -54,7 +52,7 @@ impl<'a> WorkingFile<'a> {
     /// The layout of a file that has blocks; refuses 31, and 33 below version 6.
     fn layout_with_blocks(&self) -> Result<Layout, Fault>
         ensures exact { result ≡ layout_with_blocks (view self.now) }
-        ensures small { IfOk result (SmallFile (view self.now)) }
+        ensures small { IfOk result (IsSmallFile (view self.now)) }
         ensures read { ReadFile (file (view self.now)) }
     {
         let layout = self.judged().layout()?;
@@ -74,7 +72,7 @@ impl<'a> WorkingFile<'a> {
         requires same { judged_bytes judged.now ≡ file (view self.now) }
         requires read { ReadFile (file (view self.now)) }
         ensures exact { result ≡ block_to_edit (view self.now) number }
-        ensures small { IfOk result (λ found. SmallFile (view self.now) found.0) }
+        ensures small { IfOk result (λ found. IsSmallFile (view self.now) found.0) }
         ensures inside { IfOk result (λ found.
             found.1.place + 8 + found.1.size ≤ length (file (view self.now))) }
     {
@@ -86,7 +84,7 @@ impl<'a> WorkingFile<'a> {
     /// The patch for a block with so many bytes of data behind the last one of a file with that
     /// layout; refuses 32.
     fn patch_behind(&self, layout: Layout, body: usize) -> Result<Patch, Fault>
-        requires small { SmallFile (view self.now) layout }
+        requires small { IsSmallFile (view self.now) layout }
         requires body { body ≤ most_written }
         ensures { result ≡ patch_behind (view self.now) layout body }
     {
@@ -97,7 +95,7 @@ impl<'a> WorkingFile<'a> {
     /// The patch for a block behind the last one; refuses 31, 33 below version 6, and 32.
     fn plan_carry(&self, key: [u8; 4], body: &[u8]) -> Result<Patch, Fault>
         ensures patch { result ≡ last_patch (view self.now) (length body.now) }
-        ensures planned { CarryPlanned (view self.now) key body.now result }
+        ensures planned { IsCarryPlan (view self.now) key body.now result }
     {
         let layout = self.layout_with_blocks()?;
         self.patch_behind(layout, body.len())
@@ -122,7 +120,7 @@ impl<'a> WorkingFile<'a> {
     fn plan_add<K: Kind>(&self, value: K::Record, text: &[u8]) -> Result<Patch, Fault>
         ensures patch { result
             ≡ add_patch (view self.now) (payload K.kind (K.numbers value) text.now) }
-        ensures planned { AddPlanned (view self.now) (payload K.kind (K.numbers value) text.now) result }
+        ensures planned { IsAddPlan (view self.now) (payload K.kind (K.numbers value) text.now) result }
     {
         let layout = self.layout_with_blocks()?;
         let body = K::measure(value, text)?;
@@ -150,7 +148,7 @@ impl<'a> WorkingFile<'a> {
     /// for no such block, and 32.
     fn plan_lengthen(&self, number: usize, more: &[u8]) -> Result<Patch, Fault>
         ensures patch { result ≡ longer_patch (view self.now) number (length more.now) }
-        ensures planned { LengthenPlanned (view self.now) number more.now result }
+        ensures planned { IsLengthenPlan (view self.now) number more.now result }
     {
         let (layout, entry) = self.block_to_edit(&self.judged(), number)?;
         let added = more.len();
@@ -176,7 +174,7 @@ impl<'a> WorkingFile<'a> {
     /// The patch that takes out a block; refuses 31, 33 below version 6, and 34 for no such block.
     fn plan_remove(&self, number: usize) -> Result<Patch, Fault>
         ensures patch { result ≡ less_patch (view self.now) number }
-        ensures planned { RemovePlanned (view self.now) number result }
+        ensures planned { IsRemovePlan (view self.now) number result }
     {
         let (layout, entry) = self.block_to_edit(&self.judged(), number)?;
         self.patch(
@@ -212,7 +210,7 @@ impl<'a> WorkingFile<'a> {
     ) -> Result<Patch, Fault>
         ensures patch { result
             ≡ replace_patch (view self.now) number (payload K.kind (K.numbers value) text.now) }
-        ensures planned { ReplacePlanned (view self.now) number (payload K.kind (K.numbers value) text.now) result }
+        ensures planned { IsReplacePlan (view self.now) number (payload K.kind (K.numbers value) text.now) result }
     {
         let judged = self.judged();
         let (layout, entry) = self.block_to_edit(&judged, number)?;

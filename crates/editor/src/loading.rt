@@ -9,8 +9,8 @@ ghost use Rattle.editor.specs.Law.{IsGiven};
 
 use crate::working::{WorkingFile, end_of};
 use buffers::{write_bytes, zero_bytes};
-use faults::{Fault, Refusal};
-use format::{capacity, judge};
+use faults::Fault;
+use format::{check_capacity, judge};
 
 /// Puts a file in the place of one that ended at `old`: what that one had behind the new end
 /// becomes zero.
@@ -35,9 +35,7 @@ impl<'a> WorkingFile<'a> {
         ensures whole { IfOk result (λ old. write (content bytes.now) ≡ bytes.now) }
     {
         judge(bytes)?;
-        if bytes.len() > capacity(self.buffer) {
-            return Err(Fault::at(Refusal::Capacity, bytes.len()));
-        }
+        check_capacity(self.buffer, bytes.len())?;
         Ok(end_of(self.buffer, self.size))
     }
 

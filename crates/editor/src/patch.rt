@@ -2,7 +2,7 @@
 ghost use Rattle.std.specs.Prelude.{◌≡◌, ◌+◌, ◌-◌, ◌<◌, ◌≤◌, ◌^◌, length};
 ghost use Rattle.format.specs.Changes.{settled_header};
 ghost use Rattle.editor.specs.Calls.{view};
-ghost use Rattle.editor.specs.steps.Patches.{opened_buffer, roomed, sized, headed, PatchFits};
+ghost use Rattle.editor.specs.steps.Patches.{opened_buffer, with_room_made, with_size_put, with_head_put, IsFittingPatch};
 
 use crate::working::WorkingFile;
 use buffers::{shift_down, shift_up, write_word, zero_bytes};
@@ -53,10 +53,10 @@ fn open(buffer: &mut [u8], size: usize, at: usize, removed: usize, added: usize)
 impl<'a> WorkingFile<'a> {
     /// Makes room in the file as a patch says, and settles its header.
     pub(crate) fn make_room(&mut self, patch: Patch)
-        requires { PatchFits (view self.old) patch }
+        requires { IsFittingPatch (view self.old) patch }
         ensures same { self.new.buffer.ghost_name ≡ self.old.buffer.ghost_name }
         ensures length { length self.new.buffer.now ≡ length self.old.buffer.now }
-        ensures buffer { self.new.buffer.now ≡ roomed self.old.buffer.now self.old.size patch }
+        ensures buffer { self.new.buffer.now ≡ with_room_made self.old.buffer.now self.old.size patch }
         ensures size { self.new.size ≡ patch.size }
     {
         open(self.buffer, self.size, patch.at, patch.removed, patch.added);
@@ -67,24 +67,28 @@ impl<'a> WorkingFile<'a> {
     /// Makes room in a block, or for one, as a patch says, and gives the block's head the size of
     /// its data.
     pub(crate) fn make_room_in_block(&mut self, patch: Patch)
-        requires { PatchFits (view self.old) patch }
+        requires { IsFittingPatch (view self.old) patch }
         ensures same { self.new.buffer.ghost_name ≡ self.old.buffer.ghost_name }
         ensures length { length self.new.buffer.now ≡ length self.old.buffer.now }
-        ensures buffer { self.new.buffer.now ≡ sized (view self.old) patch }
+        ensures buffer { self.new.buffer.now ≡ with_size_put (view self.old) patch }
         ensures size { self.new.size ≡ patch.size }
     {
         self.make_room(patch);
-        let _ = write_word(self.buffer, patch.head + 4, patch.body as u32);
+        let _ = write_word(
+            self.buffer,
+            patch.head + BlockHead::SIZE_PLACE,
+            patch.body as u32,
+        );
     }
 
     /// Makes room for a block as a patch says, and writes its head; its data are to come behind
     /// that.
     pub(crate) fn begin_block(&mut self, patch: Patch, key: [u8; 4])
-        requires fits { PatchFits (view self.old) patch }
+        requires fits { IsFittingPatch (view self.old) patch }
         requires head { 8 ≤ patch.added }
         ensures same { self.new.buffer.ghost_name ≡ self.old.buffer.ghost_name }
         ensures length { length self.new.buffer.now ≡ length self.old.buffer.now }
-        ensures buffer { self.new.buffer.now ≡ headed (view self.old) key patch }
+        ensures buffer { self.new.buffer.now ≡ with_head_put (view self.old) key patch }
         ensures size { self.new.size ≡ patch.size }
     {
         self.make_room(patch);

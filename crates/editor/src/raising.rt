@@ -11,7 +11,7 @@ ghost use Rattle.editor.specs.steps.Raising.{raised_size, layout_conditions, lay
 use crate::working::WorkingFile;
 use buffers::{shift_up, write_word};
 use faults::{Fault, Refusal};
-use format::{Field, Layout, Sizes, capacity, header_end};
+use format::{Field, Layout, Sizes, check_capacity, header_end};
 use headers::{Filling, fill_fields, values_wanted, write_extents};
 
 /// What fills the header of a raised file: the fields of its new level.
@@ -102,9 +102,7 @@ impl<'a> WorkingFile<'a> {
         let layout = self.judged().layout()?;
         check_raise(layout, count)?;
         let size = self.size + (header_end(layout.version + 1) - header_end(layout.version));
-        if size > capacity(self.buffer) {
-            return Err(Fault::at(Refusal::Capacity, size));
-        }
+        check_capacity(self.buffer, size)?;
         Ok((layout, size))
     }
 

@@ -92,7 +92,7 @@ const OTHER: Entry = Entry {
     size: 5,
 };
 
-// A macro and no trait: a judged file and a working file have these methods each for itself, and a trait would name them twice more.
+// What a question answers, of any file that has the methods of a judged file.
 macro_rules! answered {
     ($file:expr, $question:expr) => {
         match $question {

@@ -6,7 +6,7 @@ use Rattle.buffers.proofs.Encoded.{be-length}
 use Rattle.buffers.specs.Moves.{written}
 use Rattle.buffers.specs.Words.{Width, four, size, word, be}
 use Rattle.format.specs.Content.{Slot, own, follows, slots, pack, unpack, IsFitting}
-use Rattle.format.specs.Header.{Field, fields}
+use Rattle.format.specs.Header.{FieldEntry, fields}
 use Rattle.format.proofs.Slots.{end}
 
 -- the place and the width of a word
@@ -16,7 +16,7 @@ Spot = ℕ × Width
 abbrev pub nowhere : Spot
 nowhere = (0, four)
 
-abbrev pub spot : Field → Spot
+abbrev pub spot : FieldEntry → Spot
 spot f = (f.place, f.width)
 
 -- the spots of the fields in slots that begin at `at`

@@ -8,7 +8,7 @@ use Rattle.buffers.specs.Moves.{written}
 use Rattle.buffers.specs.Words.{Width, two, four, size, word, be, be32}
 use Rattle.format.specs.Changes.{with_blocks, with_header, settled_header, HeaderWords, BlocksChange, BlockAdded, HeaderChange, FieldChange, CellsChange, VersionChange, WritingChanges}
 use Rattle.format.specs.Content.{Slot, own, follows, fields_at, level, slots, pack, unpack, IsFitting, Block, Content, block_bytes, section, start, header_slots, header, write, field_in, IsSound}
-use Rattle.format.specs.Header.{Field, field, fields, the_field, field_pattern, header_end}
+use Rattle.format.specs.Header.{FieldEntry, field, fields, the_field, field_pattern, header_end}
 use Rattle.format.proofs.Pieces.{take_there, drop_there}
 use Rattle.format.proofs.Slots.{end, read_back, words_known, within_slots, end_slots}
 use Rattle.format.proofs.Spots.{Spot, nowhere, spot, owned, fields_to, owned_slots, owned_length, unpack_owned, pack_set, pack_put}
@@ -54,7 +54,7 @@ field_there b fs v d s n e l from to =
     let g2 = get_or-map value (map spot table) (n - 1) nowhere 0 inside' in
     let g3 = get_or-map spot table (n - 1) (field 0 0 four) nowhere inside in
     let g4 = get_or-take (fields_to v) fields (n - 1) (field 0 0 four) among in
-    sym (g1 ∙ g2 ∙ ap value g3 ∙ ap (λ (f : Field). value (spot f)) g4)
+    sym (g1 ∙ g2 ∙ ap value g3 ∙ ap (λ (f : FieldEntry). value (spot f)) g4)
 
 pub header_words : (c : Content) → IsSound c → HeaderWords c
 header_words c s =

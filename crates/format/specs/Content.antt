@@ -4,7 +4,7 @@ use Rattle.std.specs.List.{AllByRecursion}
 use Rattle.buffers.specs.Words.{Width, two, four, size, limit, word, be, be32, Bytes}
 use Rattle.format.specs.declared.extents.Extent.{Extent}
 use Rattle.format.specs.declared.sizes.Sizes.{Sizes}
-use Rattle.format.specs.Header.{Field, fields, version, extents, the_extent, extent_end, header_end, data_start, section_size}
+use Rattle.format.specs.Header.{FieldEntry, fields, version, extents, the_extent, extent_end, header_end, data_start, section_size}
 use Rattle.format.specs.Rows.{cells_size}
 use Rattle.format.specs.Section.{data_at, block_end}
 use Rattle.format.specs.Sizes.{most_ranges, most_bins, sizes_in}
@@ -34,7 +34,7 @@ pub data Slot : Type 0 where
   follows : Width → ℕ → Slot
 
 -- the fields of a level, in the order of the table
-abbrev pub fields_at : ℕ → List Field → List Slot
+abbrev pub fields_at : ℕ → List FieldEntry → List Slot
 fields_at i [] = []
 fields_at i (f ∷ fs) = if f.level == i then own f.width ∷ fields_at i fs else fields_at i fs
 

@@ -9,16 +9,16 @@ abbrev pub version : List ℕ → ℕ
 version b = word16 b 0
 
 -- a field: the level from which a file has it, its place, and its width
-pub record Field : Type 0 where
+pub record FieldEntry : Type 0 where
   pub level : ℕ
   pub place : ℕ
   pub width : Width
 
-abbrev pub field : ℕ → ℕ → Width → Field
+abbrev pub field : ℕ → ℕ → Width → FieldEntry
 field level place width = record { level = level; place = place; width = width }
 
 -- fields 1 to 20, in order, with CODAR's names
-abbrev pub fields : List Field
+abbrev pub fields : List FieldEntry
 fields =
     field 1 2 four  -- 1 nDateTime
     ∷ field 2 10 two  -- 2 nCsKind
@@ -47,7 +47,7 @@ abbrev pub field_count : ℕ
 field_count = 20
 
 -- the field of that number, counted from 1
-abbrev pub the_field : ℕ → Field
+abbrev pub the_field : ℕ → FieldEntry
 the_field n = slice_index_or fields (n - 1) (field 0 0 four)
 
 -- fields 2, 11, 12 and 19 steer the layout of the data

@@ -2,6 +2,7 @@
 use Rattle.std.specs.Prelude.{ℕ, ◌+◌, ◌-◌, ◌*◌, Bool, ◌&&◌, List, [], ◌∷◌, length, take, sum, nat_le, slice_index, if◌then◌else◌}
 use Rattle.format.specs.declared.judging.Layout.{Layout}
 use Rattle.format.specs.declared.sizes.Sizes.{Sizes}
+use Rattle.format.specs.Sizes.{most_bins}
 
 -- the bytes that each row of a cell has for one bin, in order: the self spectra of antennas 1 to 3,
 -- the cross spectra 1-2, 1-3 and 2-3, and the quality where it is present
@@ -22,9 +23,12 @@ width_of s row = slice_index (row_widths s) (row - 1)
 abbrev pub bin_width : Sizes → ℕ
 bin_width s = sum (row_widths s)
 
--- the bytes of one cell, and of all cells
+-- the bytes of one cell, which are at most 40 for each bin, and of all cells
 abbrev pub cell_size : Sizes → ℕ
 cell_size s = s.bins * bin_width s
+
+abbrev pub most_cell_size : ℕ
+most_cell_size = most_bins * 40
 
 abbrev pub cells_size : Sizes → ℕ
 cells_size s = s.ranges * cell_size s

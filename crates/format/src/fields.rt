@@ -14,30 +14,30 @@ pub const FIELD_COUNT: usize = 20;
 
 /// A field: the level from which a file has it, its place, and its size in bytes.
 #[derive(Clone, Copy)]
-struct Row(u8, u8, u8);
+struct FieldLayout(u8, u8, u8);
 
 /// Fields 1 to 20, in order, with CODAR's names.
-const FIELDS: [Row; FIELD_COUNT] = [
-    Row(1, 2, 4), // 1 nDateTime
-    Row(2, 10, 2), // 2 nCsKind
-    Row(3, 16, 4), // 3 nSiteCodeName
-    Row(4, 24, 4), // 4 nCoverMinutes
-    Row(4, 28, 4), // 5 bDeletedSource
-    Row(4, 32, 4), // 6 bOverrideSrcInfo
-    Row(4, 36, 4), // 7 fStartFreqMHz
-    Row(4, 40, 4), // 8 fRepFreqHz
-    Row(4, 44, 4), // 9 fBandwidthKHz
-    Row(4, 48, 4), // 10 bSweepUp
-    Row(4, 52, 4), // 11 nDopplerCells
-    Row(4, 56, 4), // 12 nRangeCells
-    Row(4, 60, 4), // 13 nFirstRangeCell
-    Row(4, 64, 4), // 14 fRangeCellDistKm
-    Row(5, 72, 4), // 15 nOutputInterval
-    Row(5, 76, 4), // 16 nCreateTypeCode
-    Row(5, 80, 4), // 17 nCreatorVersion
-    Row(5, 84, 4), // 18 nActiveChannels
-    Row(5, 88, 4), // 19 nSpectraChannels
-    Row(5, 92, 4), // 20 nActiveChanBits
+const FIELDS: [FieldLayout; FIELD_COUNT] = [
+    FieldLayout(1, 2, 4), // 1 nDateTime
+    FieldLayout(2, 10, 2), // 2 nCsKind
+    FieldLayout(3, 16, 4), // 3 nSiteCodeName
+    FieldLayout(4, 24, 4), // 4 nCoverMinutes
+    FieldLayout(4, 28, 4), // 5 bDeletedSource
+    FieldLayout(4, 32, 4), // 6 bOverrideSrcInfo
+    FieldLayout(4, 36, 4), // 7 fStartFreqMHz
+    FieldLayout(4, 40, 4), // 8 fRepFreqHz
+    FieldLayout(4, 44, 4), // 9 fBandwidthKHz
+    FieldLayout(4, 48, 4), // 10 bSweepUp
+    FieldLayout(4, 52, 4), // 11 nDopplerCells
+    FieldLayout(4, 56, 4), // 12 nRangeCells
+    FieldLayout(4, 60, 4), // 13 nFirstRangeCell
+    FieldLayout(4, 64, 4), // 14 fRangeCellDistKm
+    FieldLayout(5, 72, 4), // 15 nOutputInterval
+    FieldLayout(5, 76, 4), // 16 nCreateTypeCode
+    FieldLayout(5, 80, 4), // 17 nCreatorVersion
+    FieldLayout(5, 84, 4), // 18 nActiveChannels
+    FieldLayout(5, 88, 4), // 19 nSpectraChannels
+    FieldLayout(5, 92, 4), // 20 nActiveChanBits
 ];
 
 impl TryFrom<usize> for Field {
@@ -56,8 +56,8 @@ impl TryFrom<usize> for Field {
 }
 
 impl Field {
-    /// The field's row of the table.
-    fn row(self) -> Row
+    /// What the table says of the field.
+    fn layout(self) -> FieldLayout
         ensures level { result.0 ≡ (the_field (field_number self)).level }
         ensures place { result.1 ≡ (the_field (field_number self)).place }
         ensures size { result.2 ≡ size (the_field (field_number self)).width }
@@ -76,21 +76,21 @@ impl Field {
     pub fn level(self) -> usize
         ensures { result ≡ (the_field (field_number self)).level }
     {
-        self.row().0 as usize
+        self.layout().0 as usize
     }
 
     /// Where the field stands.
     pub fn place(self) -> usize
         ensures { result ≡ (the_field (field_number self)).place }
     {
-        self.row().1 as usize
+        self.layout().1 as usize
     }
 
     /// How many bytes the field has.
     pub fn size(self) -> usize
         ensures { result ≡ size (the_field (field_number self)).width }
     {
-        self.row().2 as usize
+        self.layout().2 as usize
     }
 
     /// Whether the field steers the layout of the data.

@@ -20,6 +20,9 @@ impl BlockHead {
     /// The bytes of a head.
     pub const SIZE: usize = 8;
 
+    /// Where in a head the size stands.
+    pub const SIZE_PLACE: usize = 4;
+
     /// The head that stands at a place; a byte behind the end counts as 0.
     pub fn read(bytes: &[u8], at: usize) -> BlockHead
         ensures { result ≡ head_at bytes.now at }

@@ -19,5 +19,5 @@ pub use field::Field;
 pub use fields::FIELD_COUNT;
 pub use head::BlockHead;
 pub use judging::{Layout, judge};
-pub use limits::{MOST_BYTES, capacity};
+pub use limits::{MOST_BYTES, capacity, check_capacity};
 pub use sizes::{EARLY_BINS, EARLY_RANGES, MOST_BINS, MOST_RANGES, Sizes, has_quality};

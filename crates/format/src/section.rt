@@ -20,7 +20,7 @@ fn end_of_block(bytes: &[u8], end: usize, at: usize, number: usize) -> Result<us
     }
     let size = BlockHead::read(bytes, at).size as usize;
     if size > left - BlockHead::SIZE {
-        return Err(Fault::in_block(Refusal::BlockDataCut, number, at + 4));
+        return Err(Fault::in_block(Refusal::BlockDataCut, number, at + BlockHead::SIZE_PLACE));
     }
     Ok(at + BlockHead::SIZE + size)
 }

@@ -1,9 +1,12 @@
 //! The sizes of a file's data, and what is asked of them.
-ghost use Rattle.std.specs.Prelude.{◌≡◌, IfOk};
+ghost use Rattle.std.specs.Prelude.{◌≡◌, ◌≤◌, IfOk};
+ghost use Rattle.format.specs.Conditions.{field_number};
+ghost use Rattle.format.specs.Header.{field_count};
 ghost use Rattle.format.specs.Checks.{first_of};
 ghost use Rattle.format.specs.Judging.{size_checks};
 ghost use Rattle.format.specs.Sizes.{early_ranges, early_bins, most_ranges, most_bins, kind_has_quality, has_quality, sizes_of};
 
+use crate::field::Field;
 use crate::header::Header;
 use buffers::Word;
 use faults::{Fault, Refusal};
@@ -35,6 +38,27 @@ pub struct Sizes {
     pub quality: bool,
 }
 
+/// The fields that the sizes come from, by number, with CODAR's names: nCsKind, nDopplerCells, nRangeCells, nFirstRangeCell and
+/// nSpectraChannels.
+const KIND: usize = 2;
+
+const DOPPLER_CELLS: usize = 11;
+
+const RANGE_CELLS: usize = 12;
+
+const FIRST_RANGE_CELL: usize = 13;
+
+const CHANNELS: usize = 19;
+
+/// The field of one of these numbers.
+fn field(number: usize) -> Field
+    requires from { 1 ≤ number }
+    requires to { number ≤ field_count }
+    ensures { field_number result ≡ number }
+{
+    Field { number }
+}
+
 /// Whether field 2, taken as signed, says that there is a quality row.
 pub fn has_quality(kind: u16) -> bool
     ensures { result ≡ kind_has_quality kind }
@@ -47,7 +71,7 @@ impl<'a> Header<'a> {
     fn has_quality(&self) -> bool
         ensures { result ≡ has_quality self.now.bytes.now self.now.version }
     {
-        self.version >= 2 && has_quality(u16::at(self.bytes, 10))
+        self.version >= 2 && has_quality(u16::at(self.bytes, field(KIND).place()))
     }
 
     /// The sizes that the header gives, or those assumed for an early version.
@@ -60,19 +84,23 @@ impl<'a> Header<'a> {
             ranges: if early {
                 EARLY_RANGES
             } else {
-                u32::at(bytes, 56)
+                field(RANGE_CELLS).pattern(bytes)
             },
             bins: if early {
                 EARLY_BINS
             } else {
-                u32::at(bytes, 52)
+                field(DOPPLER_CELLS).pattern(bytes)
             },
             channels: if self.version < 5 {
                 3
             } else {
-                u32::at(bytes, 88)
+                field(CHANNELS).pattern(bytes)
             },
-            first: if early { 1 } else { u32::at(bytes, 60) },
+            first: if early {
+                1
+            } else {
+                field(FIRST_RANGE_CELL).pattern(bytes)
+            },
             quality: self.has_quality(),
         }
     }
@@ -85,13 +113,13 @@ impl<'a> Header<'a> {
     {
         let sizes = self.sizes();
         if self.version >= 4 && !(1..=MOST_BINS).contains(&sizes.bins) {
-            return Err(Fault::at(Refusal::Bins, 52));
+            return Err(Fault::at(Refusal::Bins, field(DOPPLER_CELLS).place()));
         }
         if self.version >= 4 && !(1..=MOST_RANGES).contains(&sizes.ranges) {
-            return Err(Fault::at(Refusal::Cells, 56));
+            return Err(Fault::at(Refusal::Cells, field(RANGE_CELLS).place()));
         }
         if self.version >= 5 && sizes.channels != 3 {
-            return Err(Fault::at(Refusal::Channels, 88));
+            return Err(Fault::at(Refusal::Channels, field(CHANNELS).place()));
         }
         Ok(sizes)
     }

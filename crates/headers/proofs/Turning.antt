@@ -23,11 +23,6 @@ pub record Counted (f : FillingSpec) (n wanted : ℕ) : Type 0 where
   pub count : wanted + length (filter f.takes (left f n)) ≡ values_wanted f
   pub few : wanted < n
 
-pub first_count : (f : FillingSpec) → Counted f 1 0
-first_count f =
-    let all : length (filter f.takes (left f 1)) ≡ values_wanted f = refl in
-    record { count = omega arith; few = omega arith }
-
 counted : (f : FillingSpec) (n wanted : ℕ) (has takes : Bool) → n < 21 → f.has n ≡ has → f.takes n ≡ takes → Counted f n wanted
     → Counted f (n + 1) (cond (has && takes) (wanted + 1) wanted)
 counted f n wanted false takes l h t c =
@@ -60,20 +55,10 @@ pub next_count_as : (f : FillingSpec) (n wanted more : ℕ) (t : Bool) → n < 2
     → Counted f (n + 1) more
 next_count_as f n wanted more t l c e m = subst (Counted f (n + 1)) (sym (m ∙ ap (λ (q : Bool). cond q (wanted + 1) wanted) e)) (next_count f n wanted l c)
 
-pub last_count : (f : FillingSpec) (n wanted : ℕ) → 21 ≤ n → Counted f n wanted → wanted ≡ values_wanted f
-last_count f n wanted l c =
-    let far : 21 - n ≡ 0 = omega arith in
-    let none : length (filter f.takes (left f n)) ≡ 0 = ap (λ (k : ℕ). length (filter f.takes (filter f.has (range_with_len n k)))) far in
-    let count = c.count in
-    omega arith
-
 -- ---- what is written so far, and what is left to write
 pub record Turn (first : List ℕ) (f : FillingSpec) (xs b : List ℕ) (n used : ℕ) : Type 0 where
   pub same : put_values first (fields_filled f) (filled_values f xs) ≡ put_values b (left f n) (values_for f (left f n) (drop used xs))
   pub few : used < n
-
-pub first_turn : (first : List ℕ) (f : FillingSpec) (xs : List ℕ) → Turn first f xs first 1 0
-first_turn first f xs = record { same = refl; few = omega arith }
 
 turned : (first : List ℕ) (f : FillingSpec) (xs b : List ℕ) (n used : ℕ) (has takes : Bool) → n < 21 → f.has n ≡ has → f.takes n ≡ takes → Turn first f xs b n used
     → Turn first f xs (cond has (put_header_field b n (cond takes (get_or xs used 0) (f.given n))) b) (n + 1) (cond (has && takes) (used + 1) used)

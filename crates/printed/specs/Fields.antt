@@ -1,5 +1,6 @@
 -- The fields of the header as they are printed.
-use Rattle.std.specs.Prelude.{ℕ, if◌then◌else◌, ◌||◌, List, [], ◌∷◌, ◌++◌, Some, None, codes, decimal, Option, ◌==◌, slice_index_or}
+use Rattle.std.specs.Prelude.{ℕ, ◌≡◌, if◌then◌else◌, ◌||◌, List, [], ◌∷◌, ◌++◌, Some, None, codes, decimal, Option, ◌==◌, slice_index_or}
+use Rattle.printed.specs.declared.fields.FieldLine.{FieldLine}
 use Rattle.printed.specs.declared.fields.Form.{Form}
 use Rattle.printed.specs.declared.fields.Form.TheVariants.{Number, Letters, Float}
 use Rattle.printed.specs.Keys.{key_text}
@@ -21,6 +22,10 @@ abbrev pub field_form : ℕ → Form
 field_form n =
     if n == 3 || (n == 16 || n == 17) then Letters
     else (if n == 7 || (n == 8 || (n == 9 || n == 14)) then Float else Number)
+
+-- the line of a field has its number, its form and its pattern
+abbrev pub IsLineOf : FieldLine → ℕ → ℕ → Type 0
+IsLineOf line n x = (line.number ≡ n) × ((line.form ≡ field_form n) × (line.pattern ≡ x))
 
 -- number, name and pattern of a field, and its letters; nothing is said of a floating point number
 abbrev pub field_line : Form → ℕ → ℕ → Option (List ℕ)

@@ -3,7 +3,7 @@ use Rattle.std.specs.Prelude.{◌≡◌, ℕ, List, [], ◌∷◌, ◌++◌, Som
 use Rattle.kinds.specs.Packed.{Part}
 use Rattle.printed.specs.Blocks.{quoted_text}
 use Rattle.script.specs.Fields.{field_name, HaveNumbers, signed_text}
-use Rattle.script.specs.declared.fields.Field.{Field}
+use Rattle.script.specs.declared.fields.NamedNumeral.{NamedNumeral}
 use Rattle.script.specs.declared.fields.Numeral.{Numeral}
 use Rattle.script.specs.declared.fields.Numeral.TheVariants.{Unsigned, Signed, Float}
 
@@ -14,17 +14,17 @@ IsNumberText (Signed z) t = t ≡ signed_text z
 IsNumberText (Float x) t = ⊤
 
 -- a field by its name and its number: range_method 1
-abbrev pub IsFieldText : Field → List ℕ → Type 0
+abbrev pub IsFieldText : NamedNumeral → List ℕ → Type 0
 IsFieldText f t = (number : List ℕ) × ((t ≡ field_name f ++ (codes " " ++ number)) × IsNumberText f.1 number)
 
 -- fields, each after a comma
-abbrev pub AreMoreFields : List Field → List ℕ → Type 0
+abbrev pub AreMoreFields : List NamedNumeral → List ℕ → Type 0
 AreMoreFields [] t = t ≡ []
 AreMoreFields (f ∷ fs) t =
     (first : List ℕ) × ((more : List ℕ) × ((t ≡ codes ", " ++ (first ++ more)) × (IsFieldText f first × AreMoreFields fs more)))
 
 -- fields, parted by commas: range_method 1, range_multiple 2
-abbrev pub IsFieldList : List Field → List ℕ → Type 0
+abbrev pub IsFieldList : List NamedNumeral → List ℕ → Type 0
 IsFieldList [] t = t ≡ []
 IsFieldList (f ∷ fs) t =
     (first : List ℕ) × ((more : List ℕ) × ((t ≡ first ++ more) × (IsFieldText f first × AreMoreFields fs more)))
@@ -37,5 +37,5 @@ text_after (Some lead) text = lead ++ quoted_text text
 -- fields of those names with the numbers of the parts, and the text
 abbrev pub IsRecordText : List (List ℕ) → List Part → List ℕ → Option (List ℕ) → List ℕ → List ℕ → Type 0
 IsRecordText names ps ns lead text t =
-    (fs : List Field) × ((list : List ℕ) × ((t ≡ list ++ text_after lead text)
+    (fs : List NamedNumeral) × ((list : List ℕ) × ((t ≡ list ++ text_after lead text)
     × ((map field_name fs ≡ names) × (HaveNumbers ps ns fs × IsFieldList fs list))))

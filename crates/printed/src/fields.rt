@@ -1,6 +1,6 @@
 //! The fields of a file's header: their names, and the line of each.
 ghost use Rattle.std.specs.Prelude.{◌≡◌};
-ghost use Rattle.printed.specs.Fields.{header_field_name, field_form, field_line};
+ghost use Rattle.printed.specs.Fields.{header_field_name, field_form, field_line, IsLineOf};
 
 use crate::keys::{Key, SPACE, TILDE};
 use std::fmt;
@@ -75,7 +75,7 @@ fn field_form(number: usize) -> Form
 impl FieldLine {
     /// The line of the field of that number, which has that pattern.
     pub fn of(number: usize, pattern: u32) -> FieldLine
-        ensures { (result.number ≡ number) × (result.form ≡ field_form number) × (result.pattern ≡ pattern) }
+        ensures { IsLineOf result number pattern }
     {
         FieldLine {
             number,

@@ -5,7 +5,7 @@ ghost use Rattle.printed.specs.Blocks.{quoted_text};
 ghost use Rattle.printed.specs.Named.{IsNumberText, IsFieldText, IsFieldList, text_after, IsRecordText};
 
 use crate::keys::{SPACE, TILDE, letter};
-use script::{Field, Fields, Numeral};
+use script::{Fields, NamedNumeral, Numeral};
 use std::alloc::{AllocError, Global};
 use std::num::f64_from_bits_with_nan;
 
@@ -36,7 +36,7 @@ fn number_text(heap: Global, number: Numeral) -> Result<String, AllocError>
 }
 
 /// A field's name and its number.
-fn field_text(heap: Global, field: Field) -> Result<String, AllocError>
+fn field_text(heap: Global, field: NamedNumeral) -> Result<String, AllocError>
     ensures { IfOk result (λ s. IsFieldText field (string_bytes s)) }
 {
     let name = field.0;
@@ -45,7 +45,7 @@ fn field_text(heap: Global, field: Field) -> Result<String, AllocError>
 }
 
 /// Fields, parted by commas.
-fn field_list(heap: Global, fields: &[Field]) -> Result<String, AllocError>
+fn field_list(heap: Global, fields: &[NamedNumeral]) -> Result<String, AllocError>
     ensures { IfOk result (λ s. IsFieldList fields.now (string_bytes s)) }
 {
     let Some((first, rest)) = fields.split_first() else {

@@ -14,7 +14,7 @@ use Rattle.format.specs.Section.{block_end}
 use Rattle.format.proofs.Rules.{each_agrees}
 use Rattle.reader.specs.declared.blocks.Entry.{Entry}
 use Rattle.reader.specs.Answers.{part, patterns, filled_list, block_place, entry_at, entries, row_part, numbers_answer, list_after, numbers_list, table_after, table_list}
-use Rattle.reader.specs.Laws.{OneStart, FieldsAgree, RowsAgree, RowsInside, RowsApart, NumbersOfRows, BlocksFill, TableOfBlocks, AgreedFile}
+use Rattle.reader.specs.Laws.{OneStart, FieldsAgree, RowsAgree, RowsInside, IsRowsApart, NumbersOfRows, BlocksFill, TableOfBlocks, AgreedFile}
 use Rattle.reader.specs.Levels.{layout_of_file, row_conditions}
 use Rattle.reader.proofs.Asked.{RowOf, field_asked, row_asked, block_asked, block_answered, start_answered, table_answered}
 use Rattle.reader.proofs.Place.{held_judged, rules_of, filled_of, placed, reaches}
@@ -88,7 +88,7 @@ span_before l cell row other-cell other_row p q o m (inr same) =
     let u : (row_span l cell row).0 + (row_span l cell row).1 ≤ (row_span l other-cell other_row).0 = subst (λ (x : ℕ). (row_span l cell row).0 + (row_span l cell row).1 ≤ (row_span l x other_row).0) same.0 t in
     subst (λ (x : ℕ × ℕ). p.0 + p.1 ≤ x.0) m.span (subst (λ (x : ℕ × ℕ). x.0 + x.1 ≤ (row_span l other-cell other_row).0) o.span u)
 
-rows_apart : (b : List ℕ) (l : Layout) → layout_of_file b ≡ Ok l → RowsApart b
+rows_apart : (b : List ℕ) (l : Layout) → layout_of_file b ≡ Ok l → IsRowsApart b
 rows_apart b l h i cell row j other-cell other_row p q e f differ =
     let o = row_asked b l i cell row p h e in
     let m = row_asked b l j other-cell other_row q h f in

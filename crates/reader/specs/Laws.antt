@@ -45,15 +45,15 @@ RowsInside b l =
     → (header_end l.version + l.section ≤ p.0) × (p.0 + p.1 ≤ length b)
 
 -- two stretches of a file, each a place and a length, have no byte in common
-abbrev pub Apart : ℕ × ℕ → ℕ × ℕ → Type 0
-Apart p q = (p.0 + p.1 ≤ q.0) ⊎ (q.0 + q.1 ≤ p.0)
+abbrev pub IsApart : ℕ × ℕ → ℕ × ℕ → Type 0
+IsApart p q = (p.0 + p.1 ≤ q.0) ⊎ (q.0 + q.1 ≤ p.0)
 
 -- no two rows overlap, of one cell or of two, whichever levels ask for them
-abbrev pub RowsApart : List ℕ → Type 0
-RowsApart b =
+abbrev pub IsRowsApart : List ℕ → Type 0
+IsRowsApart b =
     (i cell row j other-cell other_row : ℕ) (p q : ℕ × ℕ) → row_answer b i cell row ≡ Ok p
     → row_answer b j other-cell other_row ≡ Ok q
-    → (cell ≡ other-cell → row ≢ other_row) → Apart p q
+    → (cell ≡ other-cell → row ≢ other_row) → IsApart p q
 
 -- the numbers of a row are the patterns of the bytes that `row` names: number i, from 0, is the
 -- word at its place in the file
@@ -114,7 +114,7 @@ pub record ReadersAgree (b : List ℕ) (l : Layout) : Type 0 where
   pub fields_agree : FieldsAgree b
   pub rows_agree : RowsAgree b
   pub rows_inside : RowsInside b l
-  pub rows_apart : RowsApart b
+  pub rows_apart : IsRowsApart b
   pub numbers_of_rows : NumbersOfRows b
   pub blocks_fill : BlocksFill b l
   pub table_of_blocks : TableOfBlocks b l

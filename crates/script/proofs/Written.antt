@@ -4,7 +4,7 @@ use Rattle.std.specs.List.{flat_map}
 use Rattle.buffers.specs.Words.{Width, one, two, four, eight}
 use Rattle.kinds.specs.Packed.{Part, plain, signed}
 use Rattle.script.specs.Fields.{HaveNumbers, IsNumeralOf, numeral_for, part_text, signed_text, numeral_text, field_argument, arguments_for}
-use Rattle.script.specs.declared.fields.Field.{Field}
+use Rattle.script.specs.declared.fields.NamedNumeral.{NamedNumeral}
 use Rattle.script.specs.declared.fields.Numeral.{Numeral}
 use Rattle.script.specs.declared.fields.Numeral.TheVariants.{Unsigned, Signed, Float}
 
@@ -27,7 +27,7 @@ numeral_written signed n (Signed z) is = sym (part_text_signed z is.0) ∙ ap (p
 numeral_written signed n (Float m) is = elim is [ ]
 
 -- and so are all, in order
-pub numbers_written : (ps : List Part) (ns : List ℕ) (fs : List Field) → HaveNumbers ps ns fs
+pub numbers_written : (ps : List Part) (ns : List ℕ) (fs : List NamedNumeral) → HaveNumbers ps ns fs
     → flat_map field_argument fs ≡ arguments_for ps ns
 numbers_written [] ns [] is = refl
 numbers_written [] ns (f ∷ fs) is = elim is [ ]

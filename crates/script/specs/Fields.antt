@@ -5,7 +5,7 @@ use Rattle.std.specs.List.{flat_map}
 use Rattle.std.proofs.Common.{of_z, to_z}
 use Rattle.buffers.specs.Words.{Width, one, two, four, eight}
 use Rattle.kinds.specs.Packed.{Part, plain, signed}
-use Rattle.script.specs.declared.fields.Field.{Field}
+use Rattle.script.specs.declared.fields.NamedNumeral.{NamedNumeral}
 use Rattle.script.specs.declared.fields.Numeral.{Numeral}
 use Rattle.script.specs.declared.fields.Numeral.TheVariants.{Unsigned, Signed, Float}
 
@@ -37,7 +37,7 @@ abbrev pub fill_names : List (List ℕ)
 fill_names = codes "range_method" ∷ codes "range_multiple" ∷ codes "doppler_method" ∷ codes "doppler_multiple" ∷ []
 
 -- the name of a field
-abbrev pub field_name : Field → List ℕ
+abbrev pub field_name : NamedNumeral → List ℕ
 field_name f = f.0.now
 
 -- an unsigned number of a width; one of eight bytes is the pattern of a float
@@ -55,7 +55,7 @@ IsNumeralOf signed n (Signed z) = FitsSigned w16 z × (of_z w16 z ≡ n)
 IsNumeralOf signed n (Float m) = ⊥
 
 -- the fields have the numbers of the parts, in order
-abbrev pub HaveNumbers : List Part → List ℕ → List Field → Type 0
+abbrev pub HaveNumbers : List Part → List ℕ → List NamedNumeral → Type 0
 HaveNumbers [] ns [] = ⊤
 HaveNumbers [] ns (f ∷ fs) = ⊥
 HaveNumbers (p ∷ ps) [] fs = ⊥
@@ -74,7 +74,7 @@ numeral_text (Signed z) = signed_text z
 numeral_text (Float x) = decimal x
 
 -- the number of a field as an argument, after a space
-abbrev pub field_argument : Field → List ℕ
+abbrev pub field_argument : NamedNumeral → List ℕ
 field_argument f = codes " " ++ numeral_text f.1
 
 -- a number of a part in decimal digits; a record has a signed one as its bit pattern

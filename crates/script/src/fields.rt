@@ -44,7 +44,7 @@ impl fmt::Display for Numeral {
 
 /// A field of a record: its name and its number.
 #[derive(Clone, Copy, Debug)]
-pub struct Field(pub &'static str, pub Numeral);
+pub struct NamedNumeral(pub &'static str, pub Numeral);
 
 /// A record by its fields.
 pub trait Fields: Copy {
@@ -57,7 +57,7 @@ pub trait Fields: Copy {
     ghost text_lead: { Option (List ℕ) };
 
     /// The names and the numbers, in the order of the record's bytes.
-    fn fields(self, heap: Global) -> Result<Vec<Field>, AllocError>
+    fn fields(self, heap: Global) -> Result<Vec<NamedNumeral>, AllocError>
         ensures names { IfOk result (λ fs. map field_name fs.items ≡ names) }
         ensures numbers { IfOk result (λ fs. HaveNumbers parts (numbers self) fs.items) };
 
@@ -74,7 +74,7 @@ pub trait Fields: Copy {
 }
 
 /// The numbers of the fields as arguments, each after a space.
-fn numbers_text(heap: Global, fields: &[Field]) -> Result<String, AllocError>
+fn numbers_text(heap: Global, fields: &[NamedNumeral]) -> Result<String, AllocError>
     ensures { IfOk result (λ s. string_bytes s ≡ flat_map field_argument fields.now) }
 {
     let mut text = String::new(heap);
@@ -104,19 +104,19 @@ impl Fields for Time {
 
     ghost text_lead = { None };
 
-    fn fields(self, heap: Global) -> Result<Vec<Field>, AllocError> {
+    fn fields(self, heap: Global) -> Result<Vec<NamedNumeral>, AllocError> {
         Vec::from_slice(
             heap,
             &[
-                Field("mark", Numeral::Unsigned(self.mark as u64)),
-                Field("year", Numeral::Unsigned(self.year as u64)),
-                Field("month", Numeral::Unsigned(self.month as u64)),
-                Field("day", Numeral::Unsigned(self.day as u64)),
-                Field("hour", Numeral::Unsigned(self.hour as u64)),
-                Field("minute", Numeral::Unsigned(self.minute as u64)),
-                Field("seconds", Numeral::Float(self.seconds)),
-                Field("coverage", Numeral::Float(self.coverage)),
-                Field("utc", Numeral::Float(self.utc)),
+                NamedNumeral("mark", Numeral::Unsigned(self.mark as u64)),
+                NamedNumeral("year", Numeral::Unsigned(self.year as u64)),
+                NamedNumeral("month", Numeral::Unsigned(self.month as u64)),
+                NamedNumeral("day", Numeral::Unsigned(self.day as u64)),
+                NamedNumeral("hour", Numeral::Unsigned(self.hour as u64)),
+                NamedNumeral("minute", Numeral::Unsigned(self.minute as u64)),
+                NamedNumeral("seconds", Numeral::Float(self.seconds)),
+                NamedNumeral("coverage", Numeral::Float(self.coverage)),
+                NamedNumeral("utc", Numeral::Float(self.utc)),
             ],
         )
     }
@@ -149,13 +149,13 @@ impl Fields for Loca {
 
     ghost text_lead = { None };
 
-    fn fields(self, heap: Global) -> Result<Vec<Field>, AllocError> {
+    fn fields(self, heap: Global) -> Result<Vec<NamedNumeral>, AllocError> {
         Vec::from_slice(
             heap,
             &[
-                Field("latitude", Numeral::Float(self.latitude)),
-                Field("longitude", Numeral::Float(self.longitude)),
-                Field("altitude", Numeral::Float(self.altitude)),
+                NamedNumeral("latitude", Numeral::Float(self.latitude)),
+                NamedNumeral("longitude", Numeral::Float(self.longitude)),
+                NamedNumeral("altitude", Numeral::Float(self.altitude)),
             ],
         )
     }
@@ -182,13 +182,13 @@ impl Fields for Rcvi {
 
     ghost text_lead = { Some (codes ", firmware ") };
 
-    fn fields(self, heap: Global) -> Result<Vec<Field>, AllocError> {
+    fn fields(self, heap: Global) -> Result<Vec<NamedNumeral>, AllocError> {
         Vec::from_slice(
             heap,
             &[
-                Field("receiver", Numeral::Unsigned(self.receiver as u64)),
-                Field("antenna", Numeral::Unsigned(self.antenna as u64)),
-                Field("gain", Numeral::Float(self.gain)),
+                NamedNumeral("receiver", Numeral::Unsigned(self.receiver as u64)),
+                NamedNumeral("antenna", Numeral::Unsigned(self.antenna as u64)),
+                NamedNumeral("gain", Numeral::Float(self.gain)),
             ],
         )
     }
@@ -215,19 +215,19 @@ impl Fields for Glrm {
 
     ghost text_lead = { None };
 
-    fn fields(self, heap: Global) -> Result<Vec<Field>, AllocError> {
+    fn fields(self, heap: Global) -> Result<Vec<NamedNumeral>, AllocError> {
         Vec::from_slice(
             heap,
             &[
-                Field("method", Numeral::Unsigned(self.method as u64)),
-                Field("version", Numeral::Unsigned(self.version as u64)),
-                Field("points", Numeral::Unsigned(self.points as u64)),
-                Field("times", Numeral::Unsigned(self.times as u64)),
-                Field("segments", Numeral::Unsigned(self.segments as u64)),
-                Field("point_power", Numeral::Float(self.point_power)),
-                Field("range_power", Numeral::Float(self.range_power)),
-                Field("range_bin", Numeral::Float(self.range_bin)),
-                Field("remove_dc", Numeral::Unsigned(self.remove_dc as u64)),
+                NamedNumeral("method", Numeral::Unsigned(self.method as u64)),
+                NamedNumeral("version", Numeral::Unsigned(self.version as u64)),
+                NamedNumeral("points", Numeral::Unsigned(self.points as u64)),
+                NamedNumeral("times", Numeral::Unsigned(self.times as u64)),
+                NamedNumeral("segments", Numeral::Unsigned(self.segments as u64)),
+                NamedNumeral("point_power", Numeral::Float(self.point_power)),
+                NamedNumeral("range_power", Numeral::Float(self.range_power)),
+                NamedNumeral("range_bin", Numeral::Float(self.range_bin)),
+                NamedNumeral("remove_dc", Numeral::Unsigned(self.remove_dc as u64)),
             ],
         )
     }
@@ -260,19 +260,19 @@ impl Fields for Supi {
 
     ghost text_lead = { None };
 
-    fn fields(self, heap: Global) -> Result<Vec<Field>, AllocError> {
+    fn fields(self, heap: Global) -> Result<Vec<NamedNumeral>, AllocError> {
         Vec::from_slice(
             heap,
             &[
-                Field("method", Numeral::Unsigned(self.method as u64)),
-                Field("version", Numeral::Unsigned(self.version as u64)),
-                Field("mode", Numeral::Unsigned(self.mode as u64)),
-                Field("debug_mode", Numeral::Unsigned(self.debug_mode as u64)),
-                Field("cells", Numeral::Unsigned(self.cells as u64)),
-                Field("power", Numeral::Float(self.power)),
-                Field("range_bin", Numeral::Float(self.range_bin)),
-                Field("banding", Numeral::Signed(self.banding)),
-                Field("smoothing", Numeral::Signed(self.smoothing)),
+                NamedNumeral("method", Numeral::Unsigned(self.method as u64)),
+                NamedNumeral("version", Numeral::Unsigned(self.version as u64)),
+                NamedNumeral("mode", Numeral::Unsigned(self.mode as u64)),
+                NamedNumeral("debug_mode", Numeral::Unsigned(self.debug_mode as u64)),
+                NamedNumeral("cells", Numeral::Unsigned(self.cells as u64)),
+                NamedNumeral("power", Numeral::Float(self.power)),
+                NamedNumeral("range_bin", Numeral::Float(self.range_bin)),
+                NamedNumeral("banding", Numeral::Signed(self.banding)),
+                NamedNumeral("smoothing", Numeral::Signed(self.smoothing)),
             ],
         )
     }
@@ -305,14 +305,14 @@ impl Fields for Fwin {
 
     ghost text_lead = { None };
 
-    fn fields(self, heap: Global) -> Result<Vec<Field>, AllocError> {
+    fn fields(self, heap: Global) -> Result<Vec<NamedNumeral>, AllocError> {
         Vec::from_slice(
             heap,
             &[
-                Field("range", Numeral::Unsigned(self.range as u64)),
-                Field("doppler", Numeral::Unsigned(self.doppler as u64)),
-                Field("range_parameter", Numeral::Float(self.range_parameter)),
-                Field("doppler_parameter", Numeral::Float(self.doppler_parameter)),
+                NamedNumeral("range", Numeral::Unsigned(self.range as u64)),
+                NamedNumeral("doppler", Numeral::Unsigned(self.doppler as u64)),
+                NamedNumeral("range_parameter", Numeral::Float(self.range_parameter)),
+                NamedNumeral("doppler_parameter", Numeral::Float(self.doppler_parameter)),
             ],
         )
     }
@@ -340,20 +340,20 @@ impl Fields for Fill {
 
     ghost text_lead = { None };
 
-    fn fields(self, heap: Global) -> Result<Vec<Field>, AllocError> {
+    fn fields(self, heap: Global) -> Result<Vec<NamedNumeral>, AllocError> {
         Vec::from_slice(
             heap,
             &[
-                Field("range_method", Numeral::Unsigned(self.range_method as u64)),
-                Field(
+                NamedNumeral("range_method", Numeral::Unsigned(self.range_method as u64)),
+                NamedNumeral(
                     "range_multiple",
                     Numeral::Unsigned(self.range_multiple as u64),
                 ),
-                Field(
+                NamedNumeral(
                     "doppler_method",
                     Numeral::Unsigned(self.doppler_method as u64),
                 ),
-                Field(
+                NamedNumeral(
                     "doppler_multiple",
                     Numeral::Unsigned(self.doppler_multiple as u64),
                 ),
@@ -385,7 +385,7 @@ impl Fields for () {
 
     ghost text_lead = { Some [] };
 
-    fn fields(self, heap: Global) -> Result<Vec<Field>, AllocError> {
+    fn fields(self, heap: Global) -> Result<Vec<NamedNumeral>, AllocError> {
         Ok(Vec::new(heap))
     }
 

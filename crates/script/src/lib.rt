@@ -9,6 +9,6 @@ mod numbers;
 
 pub use argument_error::ArgumentError;
 pub use arguments::Arguments;
-pub use fields::{Field, Fields, Numeral, arguments_text};
+pub use fields::{Fields, NamedNumeral, Numeral, arguments_text};
 pub use literal::{Literal, hexadecimal, key_of};
 pub use numbers::Number;

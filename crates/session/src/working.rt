@@ -1,7 +1,7 @@
 //! The working file of a run, in a buffer of its own, over which each call makes one anew.
 ghost use Rattle.std.specs.Prelude.{◌≡◌, length, take, drop, IfOk};
 ghost use Rattle.editor.specs.Calls.{made_state, file};
-ghost use Rattle.session.specs.Work.{working_size, working_buffer};
+ghost use Rattle.session.specs.Work.{working_size, working_buffer, file_held};
 ghost use Rattle.session.specs.LineCalls.{AnswersQuestion};
 ghost use Rattle.script.specs.Rest.{rest_of};
 
@@ -89,7 +89,7 @@ impl Working {
         question: Question,
         arguments: Arguments<'a>,
     ) -> Result<Outcome, CallError<'a>>
-        ensures { IfOk result (AnswersQuestion question (file (made_state (working_buffer self.old) (working_size self.old))) (rest_of arguments.entry)) }
+        ensures { IfOk result (AnswersQuestion question (file_held self.old) (rest_of arguments.entry)) }
     {
         let file = WorkingFile::make(self.room.bytes.as_mut_slice(), self.size);
         ask(heap, &file, question, arguments)

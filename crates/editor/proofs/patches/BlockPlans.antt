@@ -14,7 +14,7 @@ use Rattle.editor.specs.declared.patch.Patch.{Patch}
 use Rattle.editor.specs.Edits.{Edit, carry, edited_content}
 use Rattle.editor.specs.Calls.{WorkState, file, Call, edit, new_content}
 use Rattle.format.specs.InBuffer.{with_file}
-use Rattle.editor.specs.steps.Patches.{patched, roomed, PatchFits, CarryPlanned, patch_behind, last_patch, carried, resized}
+use Rattle.editor.specs.steps.Patches.{with_patch, with_room_made, IsFittingPatch, IsCarryPlan, patch_behind, last_patch, with_block_carried, with_data_put}
 use Rattle.buffers.proofs.Lists.{written_on, written_apart, written-length}
 use Rattle.editor.proofs.patches.Filling.{settled-length, patched-length, written_in_file, filled, roomed-length}
 use Rattle.editor.proofs.calls.Held.{holding_of, file_content_is, size_is, end_is}
@@ -53,7 +53,7 @@ start_moved : (c : Content) (ks : List Block) (l : Layout) (removed added : ℕ)
 start_moved c ks l removed added at sect long less = omega arith
 
 patched_plain : (c : Content) (s : WorkState) (l : Layout) (at removed : ℕ) (new : List ℕ) → length (write c) ≡ s.size → Lies s l → 104 ≤ at → at + removed ≤ 104 + l.section
-    → length (patched (write c) at removed new) ≡ s.size + length new - removed
+    → length (with_patch (write c) at removed new) ≡ s.size + length new - removed
 patched_plain c s l at removed new size h front inside =
     let start = h.start_to in
     let section = h.section_to in
@@ -61,19 +61,19 @@ patched_plain c s l at removed new size h front inside =
     omega arith
 
 patched_size : (c : Content) (s : WorkState) (l : Layout) (at removed : ℕ) (new : List ℕ) → length (write c) ≡ s.size → Lies s l → 104 ≤ at → at + removed ≤ 104 + l.section
-    → (d n : ℕ) → length (settled_header (patched (write c) at removed new) d n) ≡ s.size + length new - removed
+    → (d n : ℕ) → length (settled_header (with_patch (write c) at removed new) d n) ≡ s.size + length new - removed
 patched_size c s l at removed new size h front inside d n =
     let all = patched_plain c s l at removed new size h front inside in
     let start = h.start_to in
     let section = h.section_to in
-    settled-length (patched (write c) at removed new) d n (omega arith) ∙ all
+    settled-length (with_patch (write c) at removed new) d n (omega arith) ∙ all
 
 -- a content with other blocks, whose writing is the file with bytes in the place of others
 pub plan_plain : (c : Call) (s : WorkState) (l : Layout) (ks : List Block) (at removed head body : ℕ) (new : List ℕ) → ReadFile (file s) → layout_of_file (file s) ≡ Ok l → 6 ≤ l.version
     → new_content c s ≡ Ok (with_blocks (content (file s)) ks)
-    → write (with_blocks (content (file s)) ks) ≡ settled_header (patched (write (content (file s))) at removed new) (start (with_blocks (content (file s)) ks)) (length (section ks))
+    → write (with_blocks (content (file s)) ks) ≡ settled_header (with_patch (write (content (file s))) at removed new) (start (with_blocks (content (file s)) ks)) (length (section ks))
     → 104 ≤ at → at + removed ≤ 104 + l.section → length (section ks) ≡ l.section + length new - removed
-    → (s.size + length new - removed ≤ length s.buffer → head + 8 ≤ length s.buffer) → body ≤ s.size + length new - removed → Plan c s l at removed (length new) head body (λ p. written (roomed s.buffer s.size p) p.at new)
+    → (s.size + length new - removed ≤ length s.buffer → head + 8 ≤ length s.buffer) → body ≤ s.size + length new - removed → Plan c s l at removed (length new) head body (λ p. written (with_room_made s.buffer s.size p) p.at new)
 plan_plain c s l ks at removed head body new read e late wants writes front inside long before data_in =
     let c0 = content (file s) in
     let d = with_blocks c0 ks in
@@ -96,18 +96,18 @@ plan_plain c s l ks at removed head body new read e late wants writes front insi
           let p = patch_is s l at removed (length new) head body in
           let starts : start d ≡ p.start = start_moved c0 ks l removed (length new) r.start_is r.section_is long (gone_inside at removed l.section front inside) in
           ap (λ (n : ℕ). with_file s.buffer n (write d)) (end_is s c0 h)
-          ∙ ap (with_file s.buffer s.size) (writes ∙ ap (λ (b : List ℕ). settled_header (patched b at removed new) (start d) (length (section ks))) (sym h.written)
-          ∙ ap (λ (n : ℕ). settled_header (patched (take s.size s.buffer) at removed new) n (length (section ks))) starts
-          ∙ ap (settled_header (patched (take s.size s.buffer) at removed new) p.start) long)
+          ∙ ap (with_file s.buffer s.size) (writes ∙ ap (λ (b : List ℕ). settled_header (with_patch b at removed new) (start d) (length (section ks))) (sym h.written)
+          ∙ ap (λ (n : ℕ). settled_header (with_patch (take s.size s.buffer) at removed new) n (length (section ks))) starts
+          ∙ ap (settled_header (with_patch (take s.size s.buffer) at removed new) p.start) long)
           ∙ sym (filled s.buffer new s.size p front (in_file s l at removed lie inside) lie.within (added_inside s l at removed (length new) lie inside room) refl);
     }
 
 -- the same with the size of the data of a block written anew, before the place
 pub plan_sized : (c : Call) (s : WorkState) (l : Layout) (ks : List Block) (at removed head body : ℕ) (new : List ℕ) (q : ℕ) (r : List ℕ) → ReadFile (file s) → layout_of_file (file s) ≡ Ok l → 6 ≤ l.version
     → new_content c s ≡ Ok (with_blocks (content (file s)) ks)
-    → write (with_blocks (content (file s)) ks) ≡ settled_header (written (patched (write (content (file s))) at removed new) q r) (start (with_blocks (content (file s)) ks)) (length (section ks))
+    → write (with_blocks (content (file s)) ks) ≡ settled_header (written (with_patch (write (content (file s))) at removed new) q r) (start (with_blocks (content (file s)) ks)) (length (section ks))
     → 104 ≤ q → q + length r ≤ at → at + removed ≤ 104 + l.section → length (section ks) ≡ l.section + length new - removed
-    → (s.size + length new - removed ≤ length s.buffer → head + 8 ≤ length s.buffer) → body ≤ s.size + length new - removed → Plan c s l at removed (length new) head body (λ p. written (written (roomed s.buffer s.size p) p.at new) q r)
+    → (s.size + length new - removed ≤ length s.buffer → head + 8 ≤ length s.buffer) → body ≤ s.size + length new - removed → Plan c s l at removed (length new) head body (λ p. written (written (with_room_made s.buffer s.size p) p.at new) q r)
 plan_sized c s l ks at removed head body new q word read e late wants writes front word_in inside long before data_in =
     let c0 = content (file s) in
     let d = with_blocks c0 ks in
@@ -117,12 +117,12 @@ plan_sized c s l ks at removed head body new q word read e late wants writes fro
     let size = size_is s c0 h in
     let from : 104 ≤ at = behind_word q (length word) at front word_in in
     let plain = patched_plain c0 s l at removed new size lie from inside in
-    let all : length (written (patched (write c0) at removed new) q word) ≡ s.size + length new - removed =
-    written-length (patched (write c0) at removed new) q word (before_end s l q (length word) at removed (length new) _ lie word_in inside plain) ∙ plain in
+    let all : length (written (with_patch (write c0) at removed new) q word) ≡ s.size + length new - removed =
+    written-length (with_patch (write c0) at removed new) q word (before_end s l q (length word) at removed (length new) _ lie word_in inside plain) ∙ plain in
     record {
       content = d;
       wants = wants;
-      long = ap length writes ∙ settled-length (written (patched (write c0) at removed new) q word) (start d) (length (section ks)) (header_in s l q (length word) at removed (length new) _ lie front word_in inside all) ∙ all;
+      long = ap length writes ∙ settled-length (written (with_patch (write c0) at removed new) q word) (start d) (length (section ks)) (header_in s l q (length word) at removed (length new) _ lie front word_in inside all) ∙ all;
       lie = lie;
       front = from;
       inside = inside;
@@ -133,13 +133,13 @@ plan_sized c s l ks at removed head body new q word read e late wants writes fro
           let p = patch_is s l at removed (length new) head body in
           let starts : start d ≡ p.start = start_moved c0 ks l removed (length new) r.start_is r.section_is long (gone_inside at removed l.section from inside) in
           let f = take s.size s.buffer in
-          let f_plain : length (patched f at removed new) ≡ s.size + length new - removed = ap (λ (b : List ℕ). length (patched b at removed new)) h.written ∙ plain in
+          let f_plain : length (with_patch f at removed new) ≡ s.size + length new - removed = ap (λ (b : List ℕ). length (with_patch b at removed new)) h.written ∙ plain in
           ap (λ (n : ℕ). with_file s.buffer n (write d)) (end_is s c0 h)
-          ∙ ap (with_file s.buffer s.size) (writes ∙ ap (λ (b : List ℕ). settled_header (written (patched b at removed new) q word) (start d) (length (section ks))) (sym h.written)
-          ∙ ap (λ (n : ℕ). settled_header (written (patched f at removed new) q word) n (length (section ks))) starts
-          ∙ ap (settled_header (written (patched f at removed new) q word) p.start) long)
+          ∙ ap (with_file s.buffer s.size) (writes ∙ ap (λ (b : List ℕ). settled_header (written (with_patch b at removed new) q word) (start d) (length (section ks))) (sym h.written)
+          ∙ ap (λ (n : ℕ). settled_header (written (with_patch f at removed new) q word) n (length (section ks))) starts
+          ∙ ap (settled_header (written (with_patch f at removed new) q word) p.start) long)
           ∙ sym (ap (λ (b : List ℕ). written b q word) (filled s.buffer new s.size p from (in_file s l at removed lie inside) lie.within (added_inside s l at removed (length new) lie inside room) refl)
-          ∙ written_in_file s.buffer (patched f at removed new) word s.size p.start p.section q front (before_end s l q (length word) at removed (length new) _ lie word_in inside f_plain));
+          ∙ written_in_file s.buffer (with_patch f at removed new) word s.size p.start p.section q front (before_end s l q (length word) at removed (length new) _ lie word_in inside f_plain));
     }
 
 -- ---- a block behind the last one
@@ -151,7 +151,7 @@ pub block_long : (key body : List ℕ) → length key ≡ 4 → length (block_by
 block_long key body four = let l1 : length (block_bytes (block key body)) ≡ length key + (4 + length body) = simp length-append in omega arith
 
 pub last_plan : (c : Call) (s : WorkState) (l : Layout) (b : Block) → length b.key ≡ 4 → ReadFile (file s) → layout_of_file (file s) ≡ Ok l → 6 ≤ l.version → new_content c s ≡ Ok (with_last (content (file s)) b)
-    → Plan c s l (104 + l.section) 0 (length (block_bytes b)) (104 + l.section) (length b.body) (λ p. written (roomed s.buffer s.size p) p.at (block_bytes b))
+    → Plan c s l (104 + l.section) 0 (length (block_bytes b)) (104 + l.section) (length b.body) (λ p. written (with_room_made s.buffer s.size p) p.at (block_bytes b))
 last_plan c s l b four read e late wants =
     let c0 = content (file s) in
     let r = read.each l e in
@@ -164,15 +164,15 @@ last_plan c s l b four read e late wants =
     let start_to = lie.start_to in
     let section_to = lie.section_to in
     let writes = last_written c0 b r.sound (subst (λ (v : ℕ). 6 ≤ v) version late)
-    ∙ ap (λ (n : ℕ). settled_header (patched (write c0) n 0 (block_bytes b)) (start (with_last c0 b)) (length (section (c0.blocks ++ (b ∷ []))))) at in
+    ∙ ap (λ (n : ℕ). settled_header (with_patch (write c0) n 0 (block_bytes b)) (start (with_last c0 b)) (length (section (c0.blocks ++ (b ∷ []))))) at in
     plan_plain c s l (c0.blocks ++ (b ∷ [])) (104 + l.section) 0 (104 + l.section) (length b.body) (block_bytes b) read e late wants writes (omega arith) (omega arith) (omega arith)
     (λ room. omega arith) (omega arith)
 
 -- what is written in two steps: the block's head, and behind it the data
-pub block_filled : (s : WorkState) (key body : List ℕ) (p : Patch) → length key ≡ 4 → PatchFits s p → p.added ≡ 8 + length body → p.body ≡ length body
-    → carried s key body p ≡ written (roomed s.buffer s.size p) p.at (key ++ (be32 (length body) ++ body))
+pub block_filled : (s : WorkState) (key body : List ℕ) (p : Patch) → length key ≡ 4 → IsFittingPatch s p → p.added ≡ 8 + length body → p.body ≡ length body
+    → with_block_carried s key body p ≡ written (with_room_made s.buffer s.size p) p.at (key ++ (be32 (length body) ++ body))
 block_filled s key body p four fits adds is =
-    let r = roomed s.buffer s.size p in
+    let r = with_room_made s.buffer s.size p in
     let sz = be32 (length body) in
     let front = fits.front in
     let inside = fits.inside in
@@ -187,10 +187,10 @@ block_filled s key body p four fits adds is =
     ∙ two ∙ ap (written r p.at) (append_assoc key sz body)
 
 -- in a block that stood there, the size may be written first
-pub size_first : (s : WorkState) (new : List ℕ) (p : Patch) → PatchFits s p → p.added ≡ length new → p.head + 8 ≤ p.at
-    → resized s new p ≡ written (written (roomed s.buffer s.size p) p.at new) (p.head + 4) (be32 p.body)
+pub size_first : (s : WorkState) (new : List ℕ) (p : Patch) → IsFittingPatch s p → p.added ≡ length new → p.head + 8 ≤ p.at
+    → with_data_put s new p ≡ written (written (with_room_made s.buffer s.size p) p.at new) (p.head + 4) (be32 p.body)
 size_first s new p fits adds before =
-    let r = roomed s.buffer s.size p in
+    let r = with_room_made s.buffer s.size p in
     let front = fits.front in
     let inside = fits.inside in
     let size = fits.size_is in
@@ -201,7 +201,7 @@ size_first s new p fits adds before =
 
 -- a plan that says the same of the buffer in other words
 pub plan_as : (c : Call) (s : WorkState) (l : Layout) (at removed n m head body : ℕ) (f g : Patch → List ℕ) → n ≡ m → Plan c s l at removed n head body f
-    → (PatchFits s (patch_is s l at removed m head body) → g (patch_is s l at removed m head body) ≡ f (patch_is s l at removed m head body)) → Plan c s l at removed m head body g
+    → (IsFittingPatch s (patch_is s l at removed m head body) → g (patch_is s l at removed m head body) ≡ f (patch_is s l at removed m head body)) → Plan c s l at removed m head body g
 plan_as c s l at removed n m head body f g is p same =
     let q : Plan c s l at removed m head body f = subst (λ (k : ℕ). Plan c s l at removed k head body f) is p in
     record {
@@ -216,17 +216,17 @@ plan_as c s l at removed n m head body f g is p same =
       whole = λ fits. q.whole fits ∙ sym (same fits);
     }
 
-pub carry_planned : (s : WorkState) (key body : List ℕ) (r : Result Patch Fault) → ReadFile (file s) → length key ≡ 4 → r ≡ last_patch s (length body) → CarryPlanned s key body r
+pub carry_planned : (s : WorkState) (key body : List ℕ) (r : Result Patch Fault) → ReadFile (file s) → length key ≡ 4 → r ≡ last_patch s (length body) → IsCarryPlan s key body r
 carry_planned s key body r read four e =
     let x = block key body in
     let same = λ (l : Layout) (h : layout_of_file (file s) ≡ Ok l).
     file_wants s (carry key body) l read h ∙ ap (λ (v : ℕ). blocks_present v then Ok (with_last (content (file s)) x)) (sym (read.each l h).version_is) in
-    subst (CarryPlanned s key body) (sym e)
-    (planned (edit (carry key body)) s (λ l. 104 + l.section) (λ l. 0) (λ l. 104 + l.section) (λ l. length body) (8 + length body) (λ l. blocks_present l.version) (λ l. l) (λ l. patch_behind s l (length body)) (carried s key body) (layout_of_file (file s)) refl
+    subst (IsCarryPlan s key body) (sym e)
+    (planned (edit (carry key body)) s (λ l. 104 + l.section) (λ l. 0) (λ l. 104 + l.section) (λ l. length body) (8 + length body) (λ l. blocks_present l.version) (λ l. l) (λ l. patch_behind s l (length body)) (with_block_carried s key body) (layout_of_file (file s)) refl
     (λ l. refl)
     (λ g is. none_held s (carry key body) (layout_of_file (file s)) g refl is)
     (λ l g h fails. same l h ∙ ap (λ (y : Check). y then Ok (with_last (content (file s)) x)) fails)
     (λ l h passes.
-    plan_as (edit (carry key body)) s l (104 + l.section) 0 (length (block_bytes x)) (8 + length body) (104 + l.section) (length body) _ (carried s key body) (block_long key body four)
+    plan_as (edit (carry key body)) s l (104 + l.section) 0 (length (block_bytes x)) (8 + length body) (104 + l.section) (length body) _ (with_block_carried s key body) (block_long key body four)
     (last_plan (edit (carry key body)) s l x four read h (late_from l.version passes) (same l h ∙ ap (λ (y : Check). y then Ok (with_last (content (file s)) x)) passes))
     (λ fits. block_filled s key body (patch_is s l (104 + l.section) 0 (8 + length body) (104 + l.section) (length body)) four fits refl refl)))

@@ -20,7 +20,7 @@ use Rattle.editor.specs.declared.patch.Patch.{Patch}
 use Rattle.editor.specs.Blocks.{block_in, longer_block}
 use Rattle.editor.specs.Edits.{Edit, lengthen, remove, with_block, without_block, edited_content}
 use Rattle.editor.specs.Calls.{WorkState, file, edit, new_content}
-use Rattle.editor.specs.steps.Patches.{patched, roomed, resized, LengthenPlanned, RemovePlanned, PatchFits, patch_of, head_of, block_to_edit, longer_patch, less_patch}
+use Rattle.editor.specs.steps.Patches.{with_patch, with_room_made, with_data_put, IsLengthenPlan, IsRemovePlan, IsFittingPatch, patch_of, head_of, block_to_edit, longer_patch, less_patch}
 use Rattle.editor.proofs.patches.BlockPlaces.{said, stands}
 use Rattle.editor.proofs.patches.BlockPlans.{none_held, file_wants, plan_plain, plan_sized, plan_as, size_first}
 use Rattle.editor.proofs.patches.Filling.{roomed-length}
@@ -137,7 +137,7 @@ nothing_written b p h = take-append-drop' b p
     take-append-drop' : (b : List ℕ) (p : ℕ) → take p b ++ ([] ++ drop (p + 0) b) ≡ b
     take-append-drop' b p = ap (λ (n : ℕ). take p b ++ drop n b) (add-zero p) ∙ take-append-drop p b
 
-in_room : (s : WorkState) (p : Patch) → PatchFits s p → p.added ≡ 0 → p.at ≤ length (roomed s.buffer s.size p)
+in_room : (s : WorkState) (p : Patch) → IsFittingPatch s p → p.added ≡ 0 → p.at ≤ length (with_room_made s.buffer s.size p)
 in_room s p fits none =
     let front = fits.front in
     let inside = fits.inside in
@@ -148,7 +148,7 @@ in_room s p fits none =
     omega arith
 
 remove_plan : (s : WorkState) (k : ℕ) (l : Layout) → ReadFile (file s) → layout_of_file (file s) ≡ Ok l → all_of (block_conditions l.version l.blocks k) ≡ Ok tt
-    → Plan (edit (remove k)) s l (head_of s k) (8 + size_at (file s) (head_of s k)) 0 (head_of s k) 0 (roomed s.buffer s.size)
+    → Plan (edit (remove k)) s l (head_of s k) (8 + size_at (file s) (head_of s k)) 0 (head_of s k) 0 (with_room_made s.buffer s.size)
 remove_plan s k l read e passes =
     let c = content (file s) in
     let h = holding_of s l read e in
@@ -161,8 +161,8 @@ remove_plan s k l read e passes =
     let wants : new_content (edit (remove k)) s ≡ Ok (without_block c k) = block_wants s (remove k) k (without_block c k) l read e refl ∙ ap (λ (y : Check). y then Ok (without_block c k)) passes in
     let ks = take (k - 1) c.blocks ++ drop k c.blocks in
     let writes = removed_written c k h.sound a.late a.from a.there
-    ∙ ap (λ (n : ℕ). settled_header (patched (write c) n (length (block_bytes b)) []) (start (without_block c k)) (length (section ks))) (sym head)
-    ∙ ap (λ (n : ℕ). settled_header (patched (write c) (head_of s k) n []) (start (without_block c k)) (length (section ks))) gone in
+    ∙ ap (λ (n : ℕ). settled_header (with_patch (write c) n (length (block_bytes b)) []) (start (without_block c k)) (length (section ks))) (sym head)
+    ∙ ap (λ (n : ℕ). settled_header (with_patch (write c) (head_of s k) n []) (start (without_block c k)) (length (section ks))) gone in
     let long = section_long c k a.from a.there in
     let kept = ap length (section-append (take (k - 1) c.blocks) (drop k c.blocks)) ∙ length-append (section (take (k - 1) c.blocks)) (section (drop k c.blocks)) in
     let sect = r.section_is in
@@ -172,15 +172,15 @@ remove_plan s k l read e passes =
     let within = lie.within in
     let start_to = lie.start_to in
     let section_to = lie.section_to in
-    plan_as (edit (remove k)) s l (head_of s k) (8 + size_at (file s) (head_of s k)) 0 0 (head_of s k) 0 _ (roomed s.buffer s.size) refl
+    plan_as (edit (remove k)) s l (head_of s k) (8 + size_at (file s) (head_of s k)) 0 0 (head_of s k) 0 _ (with_room_made s.buffer s.size) refl
     (plan_plain (edit (remove k)) s l ks (head_of s k) (8 + size_at (file s) (head_of s k)) (head_of s k) 0 [] read e late wants writes (omega arith) (omega arith) (omega arith) (λ room. omega arith) (omega arith))
-    (λ fits. sym (nothing_written (roomed s.buffer s.size (patch_is s l (head_of s k) (8 + size_at (file s) (head_of s k)) 0 (head_of s k) 0)) (head_of s k) (in_room s (patch_is s l (head_of s k) (8 + size_at (file s) (head_of s k)) 0 (head_of s k) 0) fits refl)))
+    (λ fits. sym (nothing_written (with_room_made s.buffer s.size (patch_is s l (head_of s k) (8 + size_at (file s) (head_of s k)) 0 (head_of s k) 0)) (head_of s k) (in_room s (patch_is s l (head_of s k) (8 + size_at (file s) (head_of s k)) 0 (head_of s k) 0) fits refl)))
 
-pub remove_planned : (s : WorkState) (k : ℕ) (r : Result Patch Fault) → ReadFile (file s) → r ≡ less_patch s k → RemovePlanned s k r
+pub remove_planned : (s : WorkState) (k : ℕ) (r : Result Patch Fault) → ReadFile (file s) → r ≡ less_patch s k → IsRemovePlan s k r
 remove_planned s k r read e =
     let d = without_block (content (file s)) k in
-    subst (RemovePlanned s k) (sym e)
-    (planned (edit (remove k)) s (λ l. head_of s k) (λ l. 8 + size_at (file s) (head_of s k)) (λ l. head_of s k) (λ l. 0) 0 (λ l. all_of (block_conditions l.version l.blocks k)) (λ l. (l, entry_at (file s) (head_of s k))) (λ f. patch_of s f.0 f.1.place (8 + f.1.size) 0 f.1.place 0) (roomed s.buffer s.size) (layout_of_file (file s)) refl
+    subst (IsRemovePlan s k) (sym e)
+    (planned (edit (remove k)) s (λ l. head_of s k) (λ l. 8 + size_at (file s) (head_of s k)) (λ l. head_of s k) (λ l. 0) 0 (λ l. all_of (block_conditions l.version l.blocks k)) (λ l. (l, entry_at (file s) (head_of s k))) (λ f. patch_of s f.0 f.1.place (8 + f.1.size) 0 f.1.place 0) (with_room_made s.buffer s.size) (layout_of_file (file s)) refl
     (λ l. refl)
     (λ g is. none_held s (remove k) (layout_of_file (file s)) g refl is)
     (λ l g h fails. block_wants s (remove k) k d l read h refl ∙ ap (λ (y : Check). y then Ok d) fails)
@@ -188,7 +188,7 @@ remove_planned s k r read e =
 
 -- ---- more bytes at the end of a block's data
 lengthen_plan : (s : WorkState) (k : ℕ) (more : List ℕ) (l : Layout) → ReadFile (file s) → layout_of_file (file s) ≡ Ok l → all_of (block_conditions l.version l.blocks k) ≡ Ok tt
-    → Plan (edit (lengthen k more)) s l (block_end (file s) (head_of s k)) 0 (length more) (head_of s k) (size_at (file s) (head_of s k) + length more) (resized s more)
+    → Plan (edit (lengthen k more)) s l (block_end (file s) (head_of s k)) 0 (length more) (head_of s k) (size_at (file s) (head_of s k) + length more) (with_data_put s more)
 lengthen_plan s k more l read e passes =
     let c = content (file s) in
     let h = holding_of s l read e in
@@ -206,12 +206,12 @@ lengthen_plan s k more l read e passes =
     let new_body : b.body ++ (more ++ []) ≡ b.body ++ more = ap (λ (x : List ℕ). b.body ++ x) (append-nil more) in
     let count : length (b.body ++ more) ≡ size_at (file s) (head_of s k) + length more = length-append b.body more ∙ ap (λ (n : ℕ). n + length more) (sym size) in
     let whole = changed_written c k b.body [] [] more h.sound a.late a.from a.to a.there a.writable.key_size body_is in
-    let plain : write d ≡ settled_header (written (patched (write c) (before c k + 8 + length b.body) 0 more) (before c k + 4) (be32 (length (b.body ++ more)))) (start d) (length (section ks)) =
-    subst (λ (x : List ℕ). write (with_block c k (block b.key x)) ≡ settled_header (written (patched (write c) (before c k + 8 + length b.body) 0 more) (before c k + 4) (be32 (length x))) (start (with_block c k (block b.key x))) (length (section (slice_set c.blocks (k - 1) (block b.key x))))) new_body whole in
+    let plain : write d ≡ settled_header (written (with_patch (write c) (before c k + 8 + length b.body) 0 more) (before c k + 4) (be32 (length (b.body ++ more)))) (start d) (length (section ks)) =
+    subst (λ (x : List ℕ). write (with_block c k (block b.key x)) ≡ settled_header (written (with_patch (write c) (before c k + 8 + length b.body) 0 more) (before c k + 4) (be32 (length x))) (start (with_block c k (block b.key x))) (length (section (slice_set c.blocks (k - 1) (block b.key x))))) new_body whole in
     let writes = plain
-    ∙ ap (λ (n : ℕ). settled_header (written (patched (write c) n 0 more) (before c k + 4) (be32 (length (b.body ++ more)))) (start d) (length (section ks))) at
-    ∙ ap (λ (n : ℕ). settled_header (written (patched (write c) (block_end (file s) (head_of s k)) 0 more) (n + 4) (be32 (length (b.body ++ more)))) (start d) (length (section ks))) (sym head)
-    ∙ ap (λ (n : ℕ). settled_header (written (patched (write c) (block_end (file s) (head_of s k)) 0 more) (head_of s k + 4) (be32 n)) (start d) (length (section ks))) count in
+    ∙ ap (λ (n : ℕ). settled_header (written (with_patch (write c) n 0 more) (before c k + 4) (be32 (length (b.body ++ more)))) (start d) (length (section ks))) at
+    ∙ ap (λ (n : ℕ). settled_header (written (with_patch (write c) (block_end (file s) (head_of s k)) 0 more) (n + 4) (be32 (length (b.body ++ more)))) (start d) (length (section ks))) (sym head)
+    ∙ ap (λ (n : ℕ). settled_header (written (with_patch (write c) (block_end (file s) (head_of s k)) 0 more) (head_of s k + 4) (be32 n)) (start d) (length (section ks))) count in
     let sect = r.section_is in
     let end = t.end in
     let bytes = t.bytes in
@@ -222,17 +222,17 @@ lengthen_plan s k more l read e passes =
     let within = lie.within in
     let start_to = lie.start_to in
     let section_to = lie.section_to in
-    plan_as (edit (lengthen k more)) s l (block_end (file s) (head_of s k)) 0 (length more) (length more) (head_of s k) (size_at (file s) (head_of s k) + length more) _ (resized s more) refl
+    plan_as (edit (lengthen k more)) s l (block_end (file s) (head_of s k)) 0 (length more) (length more) (head_of s k) (size_at (file s) (head_of s k) + length more) _ (with_data_put s more) refl
     (plan_sized (edit (lengthen k more)) s l ks (block_end (file s) (head_of s k)) 0 (head_of s k) (size_at (file s) (head_of s k) + length more) more (head_of s k + 4)
     (be32 (size_at (file s) (head_of s k) + length more)) read e late wants writes (omega arith) (omega arith) (omega arith) (omega arith) (λ room. omega arith) (omega arith))
     (λ fits. size_first s more (patch_is s l (block_end (file s) (head_of s k)) 0 (length more) (head_of s k) (size_at (file s) (head_of s k) + length more)) fits refl (omega arith))
 
-pub lengthen_planned : (s : WorkState) (k : ℕ) (more : List ℕ) (r : Result Patch Fault) → ReadFile (file s) → r ≡ longer_patch s k (length more) → LengthenPlanned s k more r
+pub lengthen_planned : (s : WorkState) (k : ℕ) (more : List ℕ) (r : Result Patch Fault) → ReadFile (file s) → r ≡ longer_patch s k (length more) → IsLengthenPlan s k more r
 lengthen_planned s k more r read e =
     let d = with_block (content (file s)) k (longer_block (block_in (content (file s)).blocks k) more) in
-    subst (LengthenPlanned s k more) (sym e)
+    subst (IsLengthenPlan s k more) (sym e)
     (planned (edit (lengthen k more)) s (λ l. block_end (file s) (head_of s k)) (λ l. 0) (λ l. head_of s k) (λ l. size_at (file s) (head_of s k) + length more) (length more)
-    (λ l. all_of (block_conditions l.version l.blocks k)) (λ l. (l, entry_at (file s) (head_of s k))) (λ f. patch_of s f.0 (f.1.place + 8 + f.1.size) 0 (length more) f.1.place (f.1.size + length more)) (resized s more) (layout_of_file (file s)) refl
+    (λ l. all_of (block_conditions l.version l.blocks k)) (λ l. (l, entry_at (file s) (head_of s k))) (λ f. patch_of s f.0 (f.1.place + 8 + f.1.size) 0 (length more) f.1.place (f.1.size + length more)) (with_data_put s more) (layout_of_file (file s)) refl
     (λ l. refl)
     (λ g is. none_held s (lengthen k more) (layout_of_file (file s)) g refl is)
     (λ l g h fails. block_wants s (lengthen k more) k d l read h refl ∙ ap (λ (y : Check). y then Ok d) fails)

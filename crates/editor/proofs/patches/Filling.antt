@@ -6,7 +6,7 @@ use Rattle.buffers.specs.Words.{be32}
 use Rattle.format.specs.Changes.{settled_header}
 use Rattle.editor.specs.declared.patch.Patch.{Patch}
 use Rattle.format.specs.InBuffer.{with_file}
-use Rattle.editor.specs.steps.Patches.{patched, roomed}
+use Rattle.editor.specs.steps.Patches.{with_patch, with_room_made}
 use Rattle.editor.proofs.calls.Held.{with_file-length}
 use Rattle.editor.proofs.patches.Opened.{opened-length}
 use Rattle.buffers.proofs.Lists.{written-length, written_apart}
@@ -26,7 +26,7 @@ settled-length x d s long =
     let l5 : length x5 ≡ length x = written-length x4 96 (be32 (d - 100)) (omega arith) ∙ l4 in
     written-length x5 100 (be32 s) (omega arith) ∙ l5
 
-pub patched-length : (b : List ℕ) (at removed : ℕ) (new : List ℕ) → at + removed ≤ length b → length (patched b at removed new) ≡ length b + length new - removed
+pub patched-length : (b : List ℕ) (at removed : ℕ) (new : List ℕ) → at + removed ≤ length b → length (with_patch b at removed new) ≡ length b + length new - removed
 patched-length b at removed new h =
     let l1 = length-append (take at b) (new ++ drop (at + removed) b) in
     let l2 = length-append new (drop (at + removed) b) in
@@ -35,7 +35,7 @@ patched-length b at removed new h =
     omega arith
 
 -- what stood in the room is written over
-room_filled : (b hole new : List ℕ) (at removed : ℕ) → at + removed ≤ length b → length hole ≡ length new → written (patched b at removed hole) at new ≡ patched b at removed new
+room_filled : (b hole new : List ℕ) (at removed : ℕ) → at + removed ≤ length b → length hole ≡ length new → written (with_patch b at removed hole) at new ≡ with_patch b at removed new
 unfolding written
 room_filled b hole new at removed h same =
     let l1 = length-append (take at b) (hole ++ drop (at + removed) b) in
@@ -54,11 +54,11 @@ written_in_file buffer x r size d s q front inside =
     ∙ ap (with_file buffer size) (written_settled x r d s q front inside)
 
 pub filled : (buffer new : List ℕ) (size : ℕ) (p : Patch) → 104 ≤ p.at → p.at + p.removed ≤ size → size ≤ length buffer → p.at + p.added ≤ length buffer → length new ≡ p.added
-    → written (roomed buffer size p) p.at new ≡ with_file buffer size (settled_header (patched (take size buffer) p.at p.removed new) p.start p.section)
+    → written (with_room_made buffer size p) p.at new ≡ with_file buffer size (settled_header (with_patch (take size buffer) p.at p.removed new) p.start p.section)
 filled buffer new size p front inside within room long =
     let f = take size buffer in
     let hole = take p.added (drop p.at buffer) in
-    let x = patched f p.at p.removed hole in
+    let x = with_patch f p.at p.removed hole in
     let whole = opened-length buffer size p.at p.removed p.added inside within room in
     let hole_long : length hole ≡ p.added = length-take-le p.added (drop p.at buffer) (simp length-drop (omega arith)) in
     let f_long : length f ≡ size = length-take-le size buffer within in
@@ -67,9 +67,9 @@ filled buffer new size p front inside within room long =
     ∙ ap (λ (b : List ℕ). with_file buffer size (settled_header b p.start p.section)) (room_filled f hole new p.at p.removed (omega arith) (omega arith))
 
 pub roomed-length : (buffer : List ℕ) (size : ℕ) (p : Patch) → 104 ≤ p.at → p.at + p.removed ≤ size → size ≤ length buffer → size + p.added - p.removed ≤ length buffer → p.at + p.added ≤ length buffer
-    → length (roomed buffer size p) ≡ length buffer
+    → length (with_room_made buffer size p) ≡ length buffer
 roomed-length buffer size p front inside within room hole =
-    let x = patched (take size buffer) p.at p.removed (take p.added (drop p.at buffer)) in
+    let x = with_patch (take size buffer) p.at p.removed (take p.added (drop p.at buffer)) in
     let whole = opened-length buffer size p.at p.removed p.added inside within hole in
     let all = with_file-length buffer x size within (omega arith) in
     settled-length (with_file buffer size x) p.start p.section (omega arith) ∙ all

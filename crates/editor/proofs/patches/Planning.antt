@@ -15,7 +15,7 @@ use Rattle.reader.proofs.Place.{placed}
 use Rattle.editor.specs.declared.patch.Patch.{Patch}
 use Rattle.editor.specs.Calls.{WorkState, work_state, file, file_end, Call, new_content}
 use Rattle.format.specs.InBuffer.{capacity, with_file}
-use Rattle.editor.specs.steps.Patches.{SmallFile, PatchFits, Planned, patch_of}
+use Rattle.editor.specs.steps.Patches.{IsSmallFile, IsFittingPatch, IsPlanned, patch_of}
 use Rattle.editor.proofs.calls.Done.{refused, accepted, over_capacity}
 use Rattle.editor.proofs.calls.Held.{holding_of, size_is, file_is}
 
@@ -43,7 +43,7 @@ lies s l read e late =
     record { within = omega arith; small = omega arith; start_to = omega arith; section_to = omega arith }
 
 -- and are small
-pub small_of : (s : WorkState) (l : Layout) → ReadFile (file s) → layout_of_file (file s) ≡ Ok l → SmallFile s l
+pub small_of : (s : WorkState) (l : Layout) → ReadFile (file s) → layout_of_file (file s) ≡ Ok l → IsSmallFile s l
 small_of s l read e =
     let h = holding_of s l read e in
     let p = placed (file s) l e in
@@ -54,7 +54,7 @@ small_of s l read e =
     record { file = omega arith; size = omega arith; start = omega arith; section = omega arith }
 
 patch_fits : (s : WorkState) (l : Layout) (at removed added head body : ℕ) → Lies s l → 104 ≤ at → at + removed ≤ 104 + l.section → (s.size + added - removed ≤ length s.buffer → head + 8 ≤ length s.buffer) → body ≤ s.size + added - removed → s.size + added - removed ≤ capacity s.buffer
-    → PatchFits s (patch_is s l at removed added head body)
+    → IsFittingPatch s (patch_is s l at removed added head body)
 patch_fits s l at removed added head body h front inside before data_in room =
     let within = h.within in
     let small = h.small in
@@ -84,14 +84,14 @@ pub record Plan (c : Call) (s : WorkState) (l : Layout) (at removed added head b
   pub inside : at + removed ≤ 104 + l.section
   pub before : s.size + added - removed ≤ length s.buffer → head + 8 ≤ length s.buffer
   pub data_in : body ≤ s.size + added - removed
-  pub whole : PatchFits s (patch_is s l at removed added head body) → with_file s.buffer (file_end s) (write content) ≡ leaves (patch_is s l at removed added head body)
+  pub whole : IsFittingPatch s (patch_is s l at removed added head body) → with_file s.buffer (file_end s) (write content) ≡ leaves (patch_is s l at removed added head body)
 
 -- a call that is refused
-pub by_fault : (c : Call) (s : WorkState) (n : ℕ) (g : Fault) (leaves : Patch → List ℕ) → new_content c s ≡ Err g → Planned c s n (Err g) leaves
+pub by_fault : (c : Call) (s : WorkState) (n : ℕ) (g : Fault) (leaves : Patch → List ℕ) → new_content c s ≡ Err g → IsPlanned c s n (Err g) leaves
 by_fault c s n g leaves e = let q = refused c s g e in record { answers = sym q.0; stays = q.1; left = tt; fits = tt; adds = tt }
 
 by_room : (c : Call) (s : WorkState) (l : Layout) (at removed added head body : ℕ) (leaves : Patch → List ℕ) → Plan c s l at removed added head body leaves → (t : Bool) → leb (s.size + added - removed) (capacity s.buffer) ≡ t
-    → Planned c s added (unless t (fault Capacity (s.size + added - removed)) then Ok (patch_is s l at removed added head body)) leaves
+    → IsPlanned c s added (unless t (fault Capacity (s.size + added - removed)) then Ok (patch_is s l at removed added head body)) leaves
 by_room c s l at removed added head body leaves p true e =
     let room = leb-true (s.size + added - removed) (capacity s.buffer) e in
     let a = accepted c s p.content p.wants (subst (λ (n : ℕ). n ≤ capacity s.buffer) (sym p.long) room) in
@@ -107,7 +107,7 @@ by_room c s l at removed added head body leaves p false e =
     record { answers = sym q.0; stays = q.1; left = tt; fits = tt; adds = tt }
 
 pub by_conditions : (c : Call) (s : WorkState) (l : Layout) (at removed added head body : ℕ) (leaves : Patch → List ℕ) (t : Check) → ((g : Fault) → t ≡ Err g → new_content c s ≡ Err g)
-    → (t ≡ Ok tt → Plan c s l at removed added head body leaves) → Planned c s added (t then patch_of s l at removed added head body) leaves
+    → (t ≡ Ok tt → Plan c s l at removed added head body leaves) → IsPlanned c s added (t then patch_of s l at removed added head body) leaves
 by_conditions c s l at removed added head body leaves (Ok u) fails plan =
     by_room c s l at removed added head body leaves (plan refl) (leb (s.size + added - removed) (capacity s.buffer)) refl
 by_conditions c s l at removed added head body leaves (Err g) fails plan = by_fault c s added g leaves (fails g refl)
@@ -122,8 +122,8 @@ pub planned : {X : Type 0} (c : Call) (s : WorkState) (at removed head body : La
     → ((g : Fault) → r ≡ Err g → new_content c s ≡ Err g)
     → ((l : Layout) (g : Fault) → r ≡ Ok l → conditions l ≡ Err g → new_content c s ≡ Err g)
     → ((l : Layout) → r ≡ Ok l → conditions l ≡ Ok tt → Plan c s l (at l) (removed l) added (head l) (body l) leaves)
-    → Planned c s added ((r with λ l. conditions l then Ok (found l)) with next) leaves
+    → IsPlanned c s added ((r with λ l. conditions l then Ok (found l)) with next) leaves
 planned c s at removed head body added conditions found next leaves (Err g) e is none fails plan = by_fault c s added g leaves (none g refl)
 planned c s at removed head body added conditions found next leaves (Ok l) e is none fails plan =
-    subst (λ (y : Result Patch Fault). Planned c s added y leaves) (sym (handed_on (conditions l) (found l) next ∙ ap (λ (y : Result Patch Fault). conditions l then y) (is l)))
+    subst (λ (y : Result Patch Fault). IsPlanned c s added y leaves) (sym (handed_on (conditions l) (found l) next ∙ ap (λ (y : Result Patch Fault). conditions l then y) (is l)))
     (by_conditions c s l (at l) (removed l) added (head l) (body l) leaves (conditions l) (λ g. fails l g refl) (plan l refl))

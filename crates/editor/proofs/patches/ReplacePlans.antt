@@ -23,7 +23,7 @@ use Rattle.editor.specs.Blocks.{block_in, renewed_block}
 use Rattle.kinds.specs.Writing.{output_bytes, written_bytes}
 use Rattle.editor.specs.Edits.{replace, with_block}
 use Rattle.editor.specs.Calls.{WorkState, file, edit, new_content}
-use Rattle.editor.specs.steps.Patches.{patched, resized, Planned, ReplacePlanned, patch_of, head_of, replace_patch}
+use Rattle.editor.specs.steps.Patches.{with_patch, with_data_put, IsPlanned, IsReplacePlan, patch_of, head_of, replace_patch}
 use Rattle.editor.proofs.patches.BlockPlans.{none_held, file_wants, plan_sized, plan_as, size_first}
 use Rattle.editor.proofs.patches.ChangePlans.{block_at, bytes_long, changed_long}
 use Rattle.editor.proofs.calls.Held.{not_both, holding_of, file_is}
@@ -67,7 +67,7 @@ replace_wants s k new l read h o w =
     ∙ ap (λ (y : Output). look_answer new.kind (file s) k with λ seen. output_bytes y with λ w. Ok (with_block c k (renewed_block (block_in c.blocks k) w seen.used))) w
 
 replace_plan : (s : WorkState) (k : ℕ) (new : Payload) → IsSoundKind new.kind → (l : Layout) (seen : Sight) (w : List ℕ) → ReadFile (file s) → layout_of_file (file s) ≡ Ok l → look_answer new.kind (file s) k ≡ Ok seen → payload_output new ≡ bytes w
-    → Plan (edit (replace k new)) s l (head_of s k + 8) seen.used (length w) (head_of s k) (size_at (file s) (head_of s k) + length w - seen.used) (resized s w)
+    → Plan (edit (replace k new)) s l (head_of s k + 8) seen.used (length w) (head_of s k) (size_at (file s) (head_of s k) + length w - seen.used) (with_data_put s w)
 replace_plan s k new keeps l seen w read e looked wrote_w =
     let c = content (file s) in
     let h = holding_of s l read e in
@@ -95,10 +95,10 @@ replace_plan s k new keeps l seen w read e looked wrote_w =
     let wants : new_content (edit (replace k new)) s ≡ Ok d =
     replace_wants s k new l read e (bytes w) wrote_w ∙ ap (λ (y : Result Sight Fault). y with λ seen. Ok (with_block c k (renewed_block b w seen.used))) looked in
     let writes = changed_written c k [] gone more w h.sound a.late a.from a.to a.there a.writable.key_size body_is
-    ∙ ap (λ (m : ℕ). settled_header (written (patched (write c) m (length gone) w) (before c k + 4) (be32 (length (w ++ more)))) (start d) (length (section ks))) at
-    ∙ ap (λ (m : ℕ). settled_header (written (patched (write c) (head_of s k + 8) m w) (before c k + 4) (be32 (length (w ++ more)))) (start d) (length (section ks))) gone_long
-    ∙ ap (λ (m : ℕ). settled_header (written (patched (write c) (head_of s k + 8) seen.used w) (m + 4) (be32 (length (w ++ more)))) (start d) (length (section ks))) (sym head)
-    ∙ ap (λ (m : ℕ). settled_header (written (patched (write c) (head_of s k + 8) seen.used w) (head_of s k + 4) (be32 m)) (start d) (length (section ks))) count in
+    ∙ ap (λ (m : ℕ). settled_header (written (with_patch (write c) m (length gone) w) (before c k + 4) (be32 (length (w ++ more)))) (start d) (length (section ks))) at
+    ∙ ap (λ (m : ℕ). settled_header (written (with_patch (write c) (head_of s k + 8) m w) (before c k + 4) (be32 (length (w ++ more)))) (start d) (length (section ks))) gone_long
+    ∙ ap (λ (m : ℕ). settled_header (written (with_patch (write c) (head_of s k + 8) seen.used w) (m + 4) (be32 (length (w ++ more)))) (start d) (length (section ks))) (sym head)
+    ∙ ap (λ (m : ℕ). settled_header (written (with_patch (write c) (head_of s k + 8) seen.used w) (head_of s k + 4) (be32 m)) (start d) (length (section ks))) count in
     let sect = r.section_is in
     let end = t.end in
     let old_bytes = t.bytes in
@@ -109,23 +109,23 @@ replace_plan s k new keeps l seen w read e looked wrote_w =
     let within = lie.within in
     let start_to = lie.start_to in
     let section_to = lie.section_to in
-    plan_as (edit (replace k new)) s l (head_of s k + 8) seen.used (length w) (length w) (head_of s k) n _ (resized s w) refl
+    plan_as (edit (replace k new)) s l (head_of s k + 8) seen.used (length w) (length w) (head_of s k) n _ (with_data_put s w) refl
     (plan_sized (edit (replace k new)) s l ks (head_of s k + 8) seen.used (head_of s k) n w (head_of s k + 4) (be32 n) read e late wants writes
     (omega arith) (omega arith) (omega arith) (omega arith) (λ room. omega arith) (omega arith))
     (λ fits. size_first s w (patch_is s l (head_of s k + 8) seen.used (length w) (head_of s k) n) fits refl (omega arith))
 
 replace_by : (s : WorkState) (k : ℕ) (new : Payload) → IsSoundKind new.kind → (l : Layout) → ReadFile (file s) → layout_of_file (file s) ≡ Ok l → (o : Output) → payload_output new ≡ o → (lr : Result Sight Fault) → look_answer new.kind (file s) k ≡ lr
-    → Planned (edit (replace k new)) s (length (written_bytes o))
-    (lr with λ seen. output_length o with λ n. patch_of s l (head_of s k + 8) seen.used n (head_of s k) (size_at (file s) (head_of s k) + n - seen.used)) (resized s (written_bytes o))
+    → IsPlanned (edit (replace k new)) s (length (written_bytes o))
+    (lr with λ seen. output_length o with λ n. patch_of s l (head_of s k + 8) seen.used n (head_of s k) (size_at (file s) (head_of s k) + n - seen.used)) (with_data_put s (written_bytes o))
 replace_by s k new keeps l read h o w (Err g) e =
-    by_fault (edit (replace k new)) s (length (written_bytes o)) g (resized s (written_bytes o))
+    by_fault (edit (replace k new)) s (length (written_bytes o)) g (with_data_put s (written_bytes o))
     (replace_wants s k new l read h o w
     ∙ ap (λ (y : Result Sight Fault). y with λ seen. output_bytes o with λ v. Ok (with_block (content (file s)) k (renewed_block (block_in (content (file s)).blocks k) v seen.used))) e)
 replace_by s k new keeps l read h (declined p) w (Ok seen) e =
-    by_fault (edit (replace k new)) s 0 (fault TextUnfit p) (resized s [])
+    by_fault (edit (replace k new)) s 0 (fault TextUnfit p) (with_data_put s [])
     (replace_wants s k new l read h (declined p) w ∙ ap (λ (y : Result Sight Fault). y with λ seen. Err (fault TextUnfit p)) e)
 replace_by s k new keeps l read h (bytes v) w (Ok seen) e =
-    by_conditions (edit (replace k new)) s l (head_of s k + 8) seen.used (length v) (head_of s k) (size_at (file s) (head_of s k) + length v - seen.used) (resized s v) (Ok tt)
+    by_conditions (edit (replace k new)) s l (head_of s k + 8) seen.used (length v) (head_of s k) (size_at (file s) (head_of s k) + length v - seen.used) (with_data_put s v) (Ok tt)
     (λ g bad. absurd (not_both tt g (sym bad))) (λ _. replace_plan s k new keeps l seen v read h e w)
 
 -- what is found, and the patch that it gives
@@ -139,7 +139,7 @@ patch_in s k new f =
     patch_of s f.0 (f.1.place + 8) seen.used n f.1.place (f.1.size + n - seen.used)
 
 replace_found : (s : WorkState) (k : ℕ) (new : Payload) → IsSoundKind new.kind → (l : Layout) → ReadFile (file s) → layout_of_file (file s) ≡ Ok l → (c : Check) → all_of (block_conditions l.version l.blocks k) ≡ c
-    → ReplacePlanned s k new ((c then Ok (found_at s k l)) with patch_in s k new)
+    → IsReplacePlan s k new ((c then Ok (found_at s k l)) with patch_in s k new)
 replace_found s k new keeps l read h (Ok u) e = replace_by s k new keeps l read h (payload_output new) refl (look_answer new.kind (file s) k) refl
 replace_found s k new keeps l read h (Err g) e =
     let outcome_sight = block_sight new.kind (file s) k (head_of s k) in
@@ -148,12 +148,12 @@ replace_found s k new keeps l read h (Err g) e =
     replace_by s k new keeps l read h (payload_output new) refl (Err g) looked
 
 replace_held : (s : WorkState) (k : ℕ) (new : Payload) → IsSoundKind new.kind → ReadFile (file s) → (r : Result Layout Fault) → layout_of_file (file s) ≡ r
-    → ReplacePlanned s k new ((r with λ l. all_of (block_conditions l.version l.blocks k) then Ok (found_at s k l)) with patch_in s k new)
+    → IsReplacePlan s k new ((r with λ l. all_of (block_conditions l.version l.blocks k) then Ok (found_at s k l)) with patch_in s k new)
 replace_held s k new keeps read (Err g) e = by_fault (edit (replace k new)) s _ g _ (none_held s (replace k new) (layout_of_file (file s)) g refl e)
 replace_held s k new keeps read (Ok l) e = replace_found s k new keeps l read e (all_of (block_conditions l.version l.blocks k)) refl
 
 pub replace_planned : (s : WorkState) (k : ℕ) (new : Payload) (r : Result Patch Fault) → IsSoundKind new.kind → ReadFile (file s) → r ≡ replace_patch s k new
-    → ReplacePlanned s k new r
+    → IsReplacePlan s k new r
 replace_planned s k new r keeps read e =
-    subst (ReplacePlanned s k new) (sym e)
+    subst (IsReplacePlan s k new) (sym e)
     (replace_held s k new keeps read (layout_of_file (file s)) refl)

@@ -14,7 +14,7 @@ use Rattle.format.proofs.Writing.{header_long, writing_changes}
 use Rattle.format.specs.InBuffer.{with_file}
 use Rattle.editor.specs.Blocks.{block_in}
 use Rattle.editor.specs.Edits.{with_block, without_block}
-use Rattle.editor.specs.steps.Patches.{patched}
+use Rattle.editor.specs.steps.Patches.{with_patch}
 use Rattle.buffers.proofs.Lists.{written-length}
 
 pub section-append : (xs ys : List Block) → section (xs ++ ys) ≡ section xs ++ section ys
@@ -81,7 +81,7 @@ write_blocks c ks s late =
     ap (λ (h : List ℕ). h ++ z) ((writing_changes c s).header_change ks late) ∙ sym (settled_before (header c) z (start (with_blocks c ks)) (length (section ks)) (omega arith))
 
 -- ---- bytes in the place of others
-patch_lists : (h p q r new : List ℕ) (at removed : ℕ) → length h + length p ≡ at → length q ≡ removed → patched (h ++ (p ++ (q ++ r))) at removed new ≡ h ++ (p ++ (new ++ r))
+patch_lists : (h p q r new : List ℕ) (at removed : ℕ) → length h + length p ≡ at → length q ≡ removed → with_patch (h ++ (p ++ (q ++ r))) at removed new ≡ h ++ (p ++ (new ++ r))
 patch_lists h p q r new at removed long gone =
     let all : h ++ (p ++ (q ++ r)) ≡ (h ++ p) ++ (q ++ r) = sym (append_assoc h p (q ++ r)) in
     let front : length (h ++ p) ≡ at = length-append h p ∙ long in
@@ -93,7 +93,7 @@ patch_lists h p q r new at removed long gone =
 
 -- a block more behind the last
 pub last_written : (c : Content) (b : Block) → IsSound c → 6 ≤ c.version
-    → write (with_last c b) ≡ settled_header (patched (write c) (104 + length (section c.blocks)) 0 (block_bytes b)) (start (with_last c b)) (length (section (c.blocks ++ (b ∷ []))))
+    → write (with_last c b) ≡ settled_header (with_patch (write c) (104 + length (section c.blocks)) 0 (block_bytes b)) (start (with_last c b)) (length (section (c.blocks ++ (b ∷ []))))
 last_written c b s late =
     let ks = c.blocks ++ (b ∷ []) in
     let z = c.gap ++ (c.cells ++ c.tail) in
@@ -132,7 +132,7 @@ cut_writing c k from e =
 -- a block less
 pub removed_written : (c : Content) (k : ℕ) → IsSound c → 6 ≤ c.version → 1 ≤ k → slice_get c.blocks (k - 1) ≡ Some (block_in c.blocks k)
     → write (without_block c k)
-    ≡ settled_header (patched (write c) (before c k) (length (block_bytes (block_in c.blocks k))) []) (start (without_block c k)) (length (section (take (k - 1) c.blocks ++ drop k c.blocks)))
+    ≡ settled_header (with_patch (write c) (before c k) (length (block_bytes (block_in c.blocks k))) []) (start (without_block c k)) (length (section (take (k - 1) c.blocks ++ drop k c.blocks)))
 removed_written c k s late from e =
     let xs = take (k - 1) c.blocks in
     let ys = drop k c.blocks in
@@ -141,8 +141,8 @@ removed_written c k s late from e =
     let d = start (without_block c k) in
     let n = length (section (xs ++ ys)) in
     let head = head_long c s late in
-    let patch : patched (write c) (before c k) (length (block_bytes b)) [] ≡ header c ++ (section xs ++ (section ys ++ z)) =
-    ap (λ (l : List ℕ). patched l (before c k) (length (block_bytes b)) []) (cut_writing c k from e)
+    let patch : with_patch (write c) (before c k) (length (block_bytes b)) [] ≡ header c ++ (section xs ++ (section ys ++ z)) =
+    ap (λ (l : List ℕ). with_patch l (before c k) (length (block_bytes b)) []) (cut_writing c k from e)
     ∙ patch_lists (header c) (section xs) (block_bytes b) (section ys ++ z) [] (before c k) (length (block_bytes b)) (omega arith) refl in
     write_blocks c (xs ++ ys) s late
     ∙ ap (λ (l : List ℕ). settled_header (header c ++ (l ++ z)) d n) (section-append xs ys)
@@ -152,7 +152,7 @@ removed_written c k s late from e =
 -- bytes in a block's data in the place of others, and the size of the data written anew
 body_lists : (h p key size size' kept gone more new z : List ℕ) (at place removed : ℕ) → length h + length p ≡ at → length key ≡ 4 → length size ≡ 4 → length size' ≡ 4
     → at + 8 + length kept ≡ place → length gone ≡ removed
-    → written (patched (h ++ (p ++ ((key ++ (size ++ (kept ++ (gone ++ more)))) ++ z))) place removed new) (at + 4) size'
+    → written (with_patch (h ++ (p ++ ((key ++ (size ++ (kept ++ (gone ++ more)))) ++ z))) place removed new) (at + 4) size'
     ≡ h ++ (p ++ ((key ++ (size' ++ (kept ++ (new ++ more)))) ++ z))
 body_lists h p key size size' kept gone more new z at place removed front four width width' there count =
     let before = h ++ (p ++ key) in
@@ -163,7 +163,7 @@ body_lists h p key size size' kept gone more new z at place removed front four w
     let old : h ++ (p ++ ((key ++ (size ++ (kept ++ (gone ++ more)))) ++ z)) ≡ head ++ (kept ++ (gone ++ (more ++ z))) = simp append_assoc in
     let now : head ++ (kept ++ (new ++ (more ++ z))) ≡ before ++ (size ++ (kept ++ (new ++ (more ++ z)))) = append_assoc before size (kept ++ (new ++ (more ++ z))) in
     let last : before ++ (size' ++ (kept ++ (new ++ (more ++ z)))) ≡ h ++ (p ++ ((key ++ (size' ++ (kept ++ (new ++ more)))) ++ z)) = simp append_assoc in
-    ap (λ (l : List ℕ). written (patched l place removed new) (at + 4) size') old
+    ap (λ (l : List ℕ). written (with_patch l place removed new) (at + 4) size') old
     ∙ ap (λ (l : List ℕ). written l (at + 4) size') (patch_lists head kept gone (more ++ z) new place removed (omega arith) count ∙ now)
     ∙ written_mid before size size' (kept ++ (new ++ (more ++ z))) (at + 4) (omega arith) (width' ∙ sym width)
     ∙ last
@@ -171,7 +171,7 @@ body_lists h p key size size' kept gone more new z at place removed front four w
 pub changed_written : (c : Content) (k : ℕ) (kept gone more new : List ℕ) → IsSound c → 6 ≤ c.version → 1 ≤ k → k ≤ length c.blocks → slice_get c.blocks (k - 1) ≡ Some (block_in c.blocks k)
     → length (block_in c.blocks k).key ≡ 4 → (block_in c.blocks k).body ≡ kept ++ (gone ++ more)
     → write (with_block c k (block (block_in c.blocks k).key (kept ++ (new ++ more))))
-    ≡ settled_header (written (patched (write c) (before c k + 8 + length kept) (length gone) new) (before c k + 4) (be32 (length (kept ++ (new ++ more)))))
+    ≡ settled_header (written (with_patch (write c) (before c k + 8 + length kept) (length gone) new) (before c k + 4) (be32 (length (kept ++ (new ++ more)))))
     (start (with_block c k (block (block_in c.blocks k).key (kept ++ (new ++ more))))) (length (section (slice_set c.blocks (k - 1) (block (block_in c.blocks k).key (kept ++ (new ++ more))))))
 changed_written c k kept gone more new s late from to e four body =
     let xs = take (k - 1) c.blocks in
@@ -187,9 +187,9 @@ changed_written c k kept gone more new s late from to e four body =
     ap section (set_cut c.blocks (k - 1) x (omega arith)) ∙ ap (λ (i : ℕ). section (xs ++ (x ∷ drop i c.blocks))) (one_on k from) ∙ section_cut xs ys x in
     let old : write c ≡ header c ++ (section xs ++ ((b.key ++ (be32 (length b.body) ++ (kept ++ (gone ++ more)))) ++ (section ys ++ z))) =
     cut_writing c k from e ∙ ap (λ (l : List ℕ). header c ++ (section xs ++ ((b.key ++ (be32 (length b.body) ++ l)) ++ (section ys ++ z)))) body in
-    let patch : written (patched (write c) (before c k + 8 + length kept) (length gone) new) (before c k + 4) (be32 (length (kept ++ (new ++ more))))
+    let patch : written (with_patch (write c) (before c k + 8 + length kept) (length gone) new) (before c k + 4) (be32 (length (kept ++ (new ++ more))))
     ≡ header c ++ (section xs ++ (block_bytes x ++ (section ys ++ z))) =
-    ap (λ (l : List ℕ). written (patched l (before c k + 8 + length kept) (length gone) new) (before c k + 4) (be32 (length (kept ++ (new ++ more))))) old
+    ap (λ (l : List ℕ). written (with_patch l (before c k + 8 + length kept) (length gone) new) (before c k + 4) (be32 (length (kept ++ (new ++ more))))) old
     ∙ body_lists (header c) (section xs) b.key (be32 (length b.body)) (be32 (length (kept ++ (new ++ more)))) kept gone more new (section ys ++ z) (before c k) (before c k + 8 + length kept) (length gone)
     (omega arith) four refl refl refl refl in
     write_blocks c ks s late

@@ -68,7 +68,7 @@ wider v from to =
 
 -- ---- the values of the new fields
 -- a value of the caller's fits 32 bits, and one that is lacking is 0
-value_fits : (xs : List ℕ) → AllByRecursion (λ x. x < 2 ^ 32) xs → get_or xs 0 0 < 2 ^ 32
+pub value_fits : (xs : List ℕ) → AllByRecursion (λ x. x < 2 ^ 32) xs → get_or xs 0 0 < 2 ^ 32
 value_fits [] h = omega arith
 value_fits (x ∷ xs) h = h.0
 

@@ -19,22 +19,22 @@ use Rattle.editor.specs.Calls.{WorkState, work_state, file, Call, edit, call_ans
 use Rattle.format.specs.InBuffer.{most_bytes, capacity, within_capacity, with_file}
 
 -- bytes with others in the place of `removed` of them
-abbrev pub patched : List ℕ → ℕ → ℕ → List ℕ → List ℕ
-patched b at removed new = take at b ++ (new ++ drop (at + removed) b)
+abbrev pub with_patch : List ℕ → ℕ → ℕ → List ℕ → List ℕ
+with_patch b at removed new = take at b ++ (new ++ drop (at + removed) b)
 
 -- a buffer whose file of `size` bytes is opened: `added` bytes, whichever stood there, in the place
 -- of `removed`
 abbrev pub opened_buffer : List ℕ → ℕ → ℕ → ℕ → ℕ → List ℕ
 opened_buffer buffer size at removed added =
-    with_file buffer size (patched (take size buffer) at removed (take added (drop at buffer)))
+    with_file buffer size (with_patch (take size buffer) at removed (take added (drop at buffer)))
 
 -- the same by a patch, with the header settled
-abbrev pub roomed : List ℕ → ℕ → Patch → List ℕ
-roomed buffer size p =
+abbrev pub with_room_made : List ℕ → ℕ → Patch → List ℕ
+with_room_made buffer size p =
     settled_header (opened_buffer buffer size p.at p.removed p.added) p.start p.section
 
 -- a patch that the file has room for, behind its header
-pub record PatchFits (s : WorkState) (p : Patch) : Type 0 where
+pub record IsFittingPatch (s : WorkState) (p : Patch) : Type 0 where
   pub front : section_begin ≤ p.at
   pub inside : p.at + p.removed ≤ s.size
   pub within : s.size ≤ length s.buffer
@@ -49,17 +49,17 @@ pub record PatchFits (s : WorkState) (p : Patch) : Type 0 where
 
 -- what is planned for a call: its answer, and by a patch, which adds n bytes, the whole buffer
 -- after it
-pub record Planned (c : Call) (s : WorkState) (n : ℕ) (r : Result Patch Fault) (leaves : Patch
+pub record IsPlanned (c : Call) (s : WorkState) (n : ℕ) (r : Result Patch Fault) (leaves : Patch
     → List ℕ) : Type 0 where
   pub answers : passed r ≡ call_answer c s
   pub stays : IfErr r (λ f. state_after c s ≡ s)
   pub left : IfOk r (λ p. state_after c s ≡ work_state (leaves p) p.size)
-  pub fits : IfOk r (PatchFits s)
+  pub fits : IfOk r (IsFittingPatch s)
   pub adds : IfOk r (λ p. p.added ≡ n)
 
 -- a file of that layout is within the largest capacity, so that sums of its sizes are no larger
 -- than a word
-pub record SmallFile (s : WorkState) (l : Layout) : Type 0 where
+pub record IsSmallFile (s : WorkState) (l : Layout) : Type 0 where
   pub file : length (file s) ≤ most_bytes
   pub size : s.size ≤ most_bytes
   pub start : l.start ≤ most_bytes
@@ -126,36 +126,36 @@ replace_patch s k new =
     patch_of s f.0 (f.1.place + 8) seen.used n f.1.place (f.1.size + n - seen.used)
 
 -- the buffer when room was made, and the block at `head` says how many bytes of data it has then
-abbrev pub sized : WorkState → Patch → List ℕ
-sized s p = written (roomed s.buffer s.size p) (p.head + 4) (be32 p.body)
+abbrev pub with_size_put : WorkState → Patch → List ℕ
+with_size_put s p = written (with_room_made s.buffer s.size p) (p.head + 4) (be32 p.body)
 
 -- the buffer when a block was put into the room: its head, and then its data
-abbrev pub headed : WorkState → List ℕ → Patch → List ℕ
-headed s key p =
-    written (roomed s.buffer s.size p) p.at (head_bytes (record { key = key; size = p.body }))
+abbrev pub with_head_put : WorkState → List ℕ → Patch → List ℕ
+with_head_put s key p =
+    written (with_room_made s.buffer s.size p) p.at (head_bytes (record { key = key; size = p.body }))
 
-abbrev pub carried : WorkState → List ℕ → List ℕ → Patch → List ℕ
-carried s key body p = written (headed s key p) (p.at + 8) body
+abbrev pub with_block_carried : WorkState → List ℕ → List ℕ → Patch → List ℕ
+with_block_carried s key body p = written (with_head_put s key p) (p.at + 8) body
 
 -- the buffer when bytes were put into the room that was made in a block
-abbrev pub resized : WorkState → List ℕ → Patch → List ℕ
-resized s new p = written (sized s p) p.at new
+abbrev pub with_data_put : WorkState → List ℕ → Patch → List ℕ
+with_data_put s new p = written (with_size_put s p) p.at new
 
 -- what is planned for the edits of blocks
-abbrev pub AddPlanned : WorkState → Payload → Result Patch Fault → Type 0
-AddPlanned s new r =
-    Planned (edit (add new)) s (8 + length (payload_bytes new)) r (carried s new.kind.key (payload_bytes new))
+abbrev pub IsAddPlan : WorkState → Payload → Result Patch Fault → Type 0
+IsAddPlan s new r =
+    IsPlanned (edit (add new)) s (8 + length (payload_bytes new)) r (with_block_carried s new.kind.key (payload_bytes new))
 
-abbrev pub CarryPlanned : WorkState → List ℕ → List ℕ → Result Patch Fault → Type 0
-CarryPlanned s key body r =
-    Planned (edit (carry key body)) s (8 + length body) r (carried s key body)
+abbrev pub IsCarryPlan : WorkState → List ℕ → List ℕ → Result Patch Fault → Type 0
+IsCarryPlan s key body r =
+    IsPlanned (edit (carry key body)) s (8 + length body) r (with_block_carried s key body)
 
-abbrev pub LengthenPlanned : WorkState → ℕ → List ℕ → Result Patch Fault → Type 0
-LengthenPlanned s k more r = Planned (edit (lengthen k more)) s (length more) r (resized s more)
+abbrev pub IsLengthenPlan : WorkState → ℕ → List ℕ → Result Patch Fault → Type 0
+IsLengthenPlan s k more r = IsPlanned (edit (lengthen k more)) s (length more) r (with_data_put s more)
 
-abbrev pub ReplacePlanned : WorkState → ℕ → Payload → Result Patch Fault → Type 0
-ReplacePlanned s k new r =
-    Planned (edit (replace k new)) s (length (payload_bytes new)) r (resized s (payload_bytes new))
+abbrev pub IsReplacePlan : WorkState → ℕ → Payload → Result Patch Fault → Type 0
+IsReplacePlan s k new r =
+    IsPlanned (edit (replace k new)) s (length (payload_bytes new)) r (with_data_put s (payload_bytes new))
 
-abbrev pub RemovePlanned : WorkState → ℕ → Result Patch Fault → Type 0
-RemovePlanned s k r = Planned (edit (remove k)) s 0 r (roomed s.buffer s.size)
+abbrev pub IsRemovePlan : WorkState → ℕ → Result Patch Fault → Type 0
+IsRemovePlan s k r = IsPlanned (edit (remove k)) s 0 r (with_room_made s.buffer s.size)

@@ -18,7 +18,7 @@ use Rattle.format.specs.Conditions.{as_long}
 use Rattle.format.specs.InBuffer.{capacity, within_capacity}
 use Rattle.editor.specs.Calls.{WorkState, file}
 
--- how many bytes a file of version v gets more, and how many a file of n bytes has then
+-- how many bytes a file of n bytes and version v has when it is raised
 abbrev pub raised_size : ℕ → ℕ → ℕ
 raised_size n v = n + (header_end (v + 1) - header_end v)
 

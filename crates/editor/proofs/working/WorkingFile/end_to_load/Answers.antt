@@ -8,8 +8,8 @@ returns-in_err-judge-clause-answer c =
     let by = load_refused (view c.args.self.now) c.args.bytes.now _ c.in_err-judge.ensures.exact in
     search rules
 
-pub returns-then-bytes-capacity-clause-answer : goal.returns-then-bytes-capacity-clause-answer
-returns-then-bytes-capacity-clause-answer c =
+pub returns-in_err-check_capacity-clause-answer : goal.returns-in_err-check_capacity-clause-answer
+returns-in_err-check_capacity-clause-answer c =
     let by = load_over (view c.args.self.now) c.args.bytes.now _ c.in_ok-judge.ensures.exact c.in_ok-judge.ensures.content.written (search rules) in
     search rules
 

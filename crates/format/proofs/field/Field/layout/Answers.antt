@@ -1,6 +1,6 @@
 use Rattle.std.proofs.Common.{◌-◌, ◌<◌, arith}
 use Rattle.format.proofs.Tables.{same_level, same_place, same_size}
-use Rattle.format.proofs.field.Field.row.Goals as goal
+use Rattle.format.proofs.field.Field.layout.Goals as goal
 
 pub returns : goal.returns
 returns c =
