@@ -1,30 +1,40 @@
--- The table of an accepted file's blocks.
-use Rattle.std.proofs.Common.{◌≡◌, ℕ, ◌≤◌, List, length, Ok, Result, replicate, ap, arith}
-use Rattle.std.proofs.lemmas.Bool.{le-leb}
-use Rattle.std.proofs.lemmas.Grind.{common_steps}
-use Rattle.std.proofs.lemmas.List.{length-replicate}
-use Rattle.std.proofs.lemmas.List.FromFn.{length-map-range_with_len}
+-- The keys of a judged file's blocks, as a walk over them meets them.
+use Rattle.std.proofs.Common.{◌≡◌, ℕ, List, [], Ok, Err, Result, sym, ap, ◌∙◌, arith}
 use Rattle.faults.specs.declared.fault.Fault.{Fault}
 use Rattle.format.specs.declared.judging.Layout.{Layout}
+use Rattle.format.specs.Checks.{◌with◌}
 use Rattle.format.specs.Judging.{judged}
-use Rattle.printed.specs.Table.{no_entry}
-use Rattle.reader.specs.Answers.{block_place, entry_at, entries, filled_list, table_list}
+use Rattle.kutsvame.specs.Lines.{keys_of}
+use Rattle.printed.specs.Keys.{keys_text}
+use Rattle.reader.specs.declared.blocks.Entry.{Entry}
+use Rattle.reader.specs.Answers.{entries, blocks_answer}
 use Rattle.reader.specs.Levels.{layout_of_file, file_layout, accepted_layout, or_no_file}
 
--- an accepted file has the layout of judging
-held_layout : (b : List ℕ) (l : Layout) → judged b ≡ Ok l → layout_of_file b ≡ Ok l
+-- a file that was judged so has that layout, or none
+held_is : (b : List ℕ) (r : Result Layout Fault) → r ≡ judged b → layout_of_file b ≡ or_no_file (accepted_layout r)
 unfolding layout_of_file file_layout
-held_layout b l is = ap (λ (r : Result Layout Fault). or_no_file (accepted_layout r)) is
+held_is b r is = ap (λ (v : Result Layout Fault). or_no_file (accepted_layout v)) (sym is)
 
--- a table that is filled to its end has nothing of what it was
-filled_whole : {X : Type 0} (new old : List X) → length old ≤ length new → filled_list new old ≡ new
-filled_whole new old short = grind (arith, common_steps)
+-- and as many blocks as the layout says
+blocks_are : (b : List ℕ) (r : Result Layout Fault) → r ≡ judged b
+    → blocks_answer b ≡ (or_no_file (accepted_layout r) with λ l. Ok (entries b l.blocks))
+blocks_are b r is = ap (λ (held : Result Layout Fault). held with λ l. Ok (entries b l.blocks)) (held_is b r is)
 
--- a table of as many places as an accepted file has blocks has an entry for each of them, and no
--- more
-pub whole_table : (b : List ℕ) (l : Layout) → judged b ≡ Ok l → table_list b (replicate l.blocks no_entry) ≡ entries b l.blocks
-whole_table b l is =
-    let places = length-replicate l.blocks no_entry in
-    let count = length-map-range_with_len (λ i. entry_at b (block_place b i)) 0 l.blocks in
-    rw (held_layout b l is, places, le-leb l.blocks l.blocks (omega arith))
-    (filled_whole (entries b l.blocks) (replicate l.blocks no_entry) (omega (arith, places, count)))
+-- the keys of the blocks that a walk over an accepted file meets are those of the file
+pub walked_whole : (b : List ℕ) (r : Result Layout Fault) (es : List Entry) → r ≡ judged b → blocks_answer b ≡ Ok es → keys_text 33 126 es ≡ keys_of b r
+walked_whole b (Ok l) es is answered =
+    let same : ◌≡◌ {A = Result (List Entry) Fault} (Ok (entries b l.blocks)) (Ok es) = sym (blocks_are b (Ok l) is) ∙ answered in
+    let whole : es ≡ entries b l.blocks = cc in
+    ap (keys_text 33 126) whole
+walked_whole b (Err f) es is answered =
+    let none = sym (blocks_are b (Err f) is) ∙ answered in
+    let clash : ◌≡◌ {A = ℕ} 0 1 = cc in
+    absurd (omega arith)
+
+-- a file that was judged so and has no walk was refused, and has no keys
+pub not_walked : (b : List ℕ) (r : Result Layout Fault) (f : Fault) (keys : List ℕ) → r ≡ judged b → blocks_answer b ≡ Err f → keys ≡ [] → keys ≡ keys_of b r
+not_walked b (Ok l) f keys is answered empty =
+    let some : ◌≡◌ {A = Result (List Entry) Fault} (Ok (entries b l.blocks)) (Err f) = sym (blocks_are b (Ok l) is) ∙ answered in
+    let clash : ◌≡◌ {A = ℕ} 0 1 = cc in
+    absurd (omega arith)
+not_walked b (Err g) f keys is answered empty = empty

@@ -2,14 +2,16 @@
 ghost use Rattle.std.specs.Prelude.{◌≡◌, IfOk, string_bytes};
 ghost use Rattle.format.specs.Judging.{judged};
 ghost use Rattle.kutsvame.specs.Lines.{keys_of, verdict_text};
+ghost use Rattle.printed.specs.Keys.{keys_text};
+ghost use Rattle.reader.specs.Walk.{entries_left};
 
 use crate::command_error::CommandError;
 use crate::progress::Progress;
 use calls::read_file;
 use faults::Fault;
 use format::{Layout, judge};
-use printed::{block_table, key_list};
-use reader::JudgedFile;
+use printed::Key;
+use reader::{Heads, JudgedFile};
 use std::alloc::{AllocError, Global};
 use std::io;
 
@@ -18,8 +20,27 @@ const FIRST: u8 = 33;
 
 const LAST: u8 = 126;
 
-/// The keys of the blocks of a file that was judged so.
-#[tactic(auto, using(crate::proofs::Blocks::whole_table))]
+/// The keys of the blocks that a walk meets, as `: FILL, XTRA`; nothing where it meets none.
+fn walked_keys(heap: Global, blocks: Heads) -> Result<String, AllocError>
+    ensures { IfOk result (λ s. string_bytes s ≡ keys_text FIRST LAST (entries_left blocks.entry)) }
+{
+    let mut blocks = blocks;
+    let Some(first) = blocks.next() else {
+        return Ok(String::new(heap));
+    };
+    let key = Key::<FIRST, LAST>(first.key);
+    let mut list = format!(in heap; ": {key}")?;
+    for entry in blocks {
+        let key = Key::<FIRST, LAST>(entry.key);
+        let more = format!(in heap; ", {key}")?;
+        list.push_str(more.as_str())?;
+    }
+    Ok(list)
+}
+
+/// The keys of the blocks of a file that was judged so. No table is made of them: a file may have
+/// very many.
+#[tactic(auto, using(crate::proofs::Blocks::walked_whole, crate::proofs::Blocks::not_walked))]
 fn block_keys(
     heap: Global,
     bytes: &[u8],
@@ -28,11 +49,8 @@ fn block_keys(
     requires { verdict ≡ judged bytes.now }
     ensures { IfOk result (λ s. string_bytes s ≡ keys_of bytes.now verdict) }
 {
-    match verdict {
-        Ok(layout) => {
-            let table = block_table(heap, &JudgedFile::of(bytes), layout.blocks)?;
-            key_list::<FIRST, LAST>(heap, table.as_slice())
-        }
+    match JudgedFile::of(bytes).blocks() {
+        Ok(blocks) => walked_keys(heap, blocks),
         Err(_) => Ok(String::new(heap)),
     }
 }

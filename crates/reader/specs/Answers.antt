@@ -103,6 +103,10 @@ entries_from b at (suc n) = entry_at b at ∷ entries_from b (block_end b at) n
 abbrev pub entries : List ℕ → ℕ → List Entry
 entries b n = map (λ i. entry_at b (block_place b i)) (range_with_len 0 n)
 
+-- blocks: the entries of all blocks
+abbrev pub blocks_answer : List ℕ → Result (List Entry) Fault
+blocks_answer b = layout_of_file b with λ l. Ok (entries b l.blocks)
+
 -- the table after `table`: its first places have the entries of all blocks; refused, it is as
 -- before
 abbrev pub table_after : List ℕ → List Entry → Result ℕ Fault → List Entry

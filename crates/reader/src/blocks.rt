@@ -40,7 +40,7 @@ fn read_entry(bytes: &[u8], at: usize) -> Entry
 
 /// The blocks that are left from a place on, one behind the other: a walk over their heads.
 #[derive(Drop)]
-struct Heads<'a> {
+pub struct Heads<'a> {
     bytes: &'a [u8],
     at: usize,
     left: usize,
@@ -77,7 +77,7 @@ impl<'a> Heads<'a> {
 
 impl<'a> JudgedFile<'a> {
     /// The heads of all blocks.
-    fn heads(&self, layout: Layout) -> Heads<'a>
+    pub(crate) fn heads(&self, layout: Layout) -> Heads<'a>
         requires { IsPlaced (judged_bytes self.now) layout }
         ensures all { entries_from result.bytes.now result.at result.left
             ≡ entries (judged_bytes self.now) layout.blocks }
@@ -103,6 +103,10 @@ impl<'a> JudgedFile<'a> {
             return Err(Fault::at(Refusal::VersionLacksIt, 0));
         }
         let none = Fault::at(Refusal::NoSuchBlock, 0);
+        // A block past the last is refused with no walk over the others.
+        if number > layout.blocks {
+            return Err(none);
+        }
         let before = number.checked_sub(1).ok_or(none)?;
         self.heads(layout).nth(before).ok_or(none)
     }

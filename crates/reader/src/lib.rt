@@ -9,7 +9,8 @@ mod judged;
 mod parts;
 mod rows;
 mod sight;
+mod walk;
 
-pub use blocks::Entry;
+pub use blocks::{Entry, Heads};
 pub use file::JudgedFile;
 pub use rows::RowAt;
