@@ -1,6 +1,6 @@
 //! What the kinds read in a block's data, as it is printed: each number after its name, and the
 //! text in quotes.
-ghost use Rattle.std.specs.Prelude.{◌≡◌, IfOk, string_bytes};
+ghost use Rattle.std.specs.Prelude.{◌≡◌, ◌++◌, IfOk, string_bytes};
 ghost use Rattle.printed.specs.Blocks.{quoted_text};
 ghost use Rattle.printed.specs.Named.{IsNumberText, IsFieldText, IsFieldList, text_after, IsRecordText};
 
@@ -9,15 +9,24 @@ use script::{Fields, NamedNumeral, Numeral};
 use std::alloc::{AllocError, Global};
 use std::num::f64_from_bits_with_nan;
 
+/// Puts a text in quotes behind what a list has; a byte of it that is no printable ASCII is shown as
+/// a question mark. It is put there letter by letter: a text may be very long.
+fn push_quoted(list: &mut String, text: &[u8]) -> Result<(), AllocError>
+    ensures { IfOk result (λ _. string_bytes list.new ≡ string_bytes list.old ++ quoted_text text.now) }
+{
+    list.push('"')?;
+    for byte in text {
+        list.push(letter::<SPACE, TILDE>(*byte))?;
+    }
+    list.push('"')
+}
+
 /// A text in quotes; a byte of it that is no printable ASCII is shown as a question mark.
 pub fn quoted(heap: Global, text: &[u8]) -> Result<String, AllocError>
     ensures { IfOk result (λ s. string_bytes s ≡ quoted_text text.now) }
 {
-    let mut quoted = String::from_str(heap, "\"")?;
-    for byte in text {
-        quoted.push(letter::<SPACE, TILDE>(*byte))?;
-    }
-    quoted.push('"')?;
+    let mut quoted = String::new(heap);
+    push_quoted(&mut quoted, text)?;
     Ok(quoted)
 }
 
@@ -60,17 +69,18 @@ fn field_list(heap: Global, fields: &[NamedNumeral]) -> Result<String, AllocErro
     Ok(list)
 }
 
-/// The text of a record's block in quotes after what leads to it; nothing where the block has no
-/// text.
-fn text_after_fields<R: Fields>(heap: Global, text: &[u8]) -> Result<String, AllocError>
-    ensures { IfOk result (λ s. string_bytes s ≡ text_after R.text_lead text.now) }
+/// Puts the text of a record's block in quotes behind its fields, after what leads to it; nothing
+/// where the block has no text.
+fn push_text<R: Fields>(shown: &mut String, text: &[u8]) -> Result<(), AllocError>
+    ensures { IfOk result (λ _. string_bytes shown.new
+        ≡ string_bytes shown.old ++ text_after R.text_lead text.now) }
 {
     match R::text_lead() {
         Some(lead) => {
-            let quoted = quoted(heap, text)?;
-            format!(in heap; "{lead}{}", quoted.as_str())
+            shown.push_str(lead)?;
+            push_quoted(shown, text)
         }
-        None => Ok(String::new(heap)),
+        None => Ok(()),
     }
 }
 
@@ -80,7 +90,6 @@ pub fn record_text<R: Fields>(heap: Global, value: R, text: &[u8]) -> Result<Str
 {
     let fields = value.fields(heap)?;
     let mut shown = field_list(heap, fields.as_slice())?;
-    let after = text_after_fields::<R>(heap, text)?;
-    shown.push_str(after.as_str())?;
+    push_text::<R>(&mut shown, text)?;
     Ok(shown)
 }
