@@ -38,8 +38,7 @@ fn walked_keys(heap: Global, blocks: Heads) -> Result<String, AllocError>
     Ok(list)
 }
 
-/// The keys of the blocks of a file that was judged so. No table is made of them: a file may have
-/// very many.
+/// The keys of the blocks of a file that was judged so.
 #[tactic(auto, using(crate::proofs::Blocks::walked_whole, crate::proofs::Blocks::not_walked))]
 fn block_keys(
     heap: Global,
@@ -49,6 +48,9 @@ fn block_keys(
     requires { verdict ≡ judged bytes.now }
     ensures { IfOk result (λ s. string_bytes s ≡ keys_of bytes.now verdict) }
 {
+    if verdict.is_err() {
+        return Ok(String::new(heap));
+    }
     match JudgedFile::of(bytes).blocks() {
         Ok(blocks) => walked_keys(heap, blocks),
         Err(_) => Ok(String::new(heap)),

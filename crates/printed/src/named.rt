@@ -9,8 +9,8 @@ use script::{Fields, NamedNumeral, Numeral};
 use std::alloc::{AllocError, Global};
 use std::num::f64_from_bits_with_nan;
 
-/// Puts a text in quotes behind what a list has; a byte of it that is no printable ASCII is shown as
-/// a question mark. It is put there letter by letter: a text may be very long.
+/// Puts a text in quotes after what a list has; a byte of it that is no printable ASCII is shown as
+/// a question mark.
 fn push_quoted(list: &mut String, text: &[u8]) -> Result<(), AllocError>
     ensures { IfOk result (λ _. string_bytes list.new ≡ string_bytes list.old ++ quoted_text text.now) }
 {
@@ -69,8 +69,8 @@ fn field_list(heap: Global, fields: &[NamedNumeral]) -> Result<String, AllocErro
     Ok(list)
 }
 
-/// Puts the text of a record's block in quotes behind its fields, after what leads to it; nothing
-/// where the block has no text.
+/// Puts what leads to the text of a record's block after its fields, and then the text in quotes;
+/// nothing where the block has no text.
 fn push_text<R: Fields>(shown: &mut String, text: &[u8]) -> Result<(), AllocError>
     ensures { IfOk result (λ _. string_bytes shown.new
         ≡ string_bytes shown.old ++ text_after R.text_lead text.now) }
