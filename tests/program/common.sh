@@ -29,6 +29,43 @@ expect() {
   fi
 }
 
+# expect_within KILOBYTES STATUS ARGUMENT..: as expect, with no more address space than that
+expect_within() {
+  local most=$1 whole=$program
+  shift
+  printf '#!/bin/sh\nulimit -v %s || exit 99\nexec "%s" "$@"\n' "$most" "$whole" >"$room/within"
+  chmod +x "$room/within"
+  program=$room/within
+  expect "$@"
+  program=$whole
+}
+
+# word NUMBER: the four bytes of a number, the highest first
+word() {
+  printf "$(printf '\\x%02x' $(($1 >> 24 & 255)) $(($1 >> 16 & 255)) $(($1 >> 8 & 255)) $(($1 & 255)))"
+}
+
+# with_section FILE: what a file of version 6 has with these bytes as its section of blocks: the
+# header of file M, with the extents and S that follow, the section, and a cell of zeros
+with_section() {
+  local size start
+  size=$(wc -c <"$1") || exit 1
+  start=$((104 + size))
+  head -c 6 "$data/m.cs"
+  word $((start - 10))
+  tail -c +11 "$data/m.cs" | head -c 2
+  word $((start - 16))
+  tail -c +17 "$data/m.cs" | head -c 4
+  word $((start - 24))
+  tail -c +25 "$data/m.cs" | head -c 44
+  word $((start - 72))
+  tail -c +73 "$data/m.cs" | head -c 24
+  word $((start - 100))
+  word "$size"
+  cat "$1"
+  head -c 36 /dev/zero
+}
+
 # run_script STATUS LINE..: calls run with a script of these lines
 run_script() {
   local status=$1

@@ -36,4 +36,18 @@ site.cs: accepted: version 6, 2 range cells of 3 Doppler bins, quality, data at 
 END
 says ''
 
+# a million empty blocks: the memory that it takes is that of the file and of the line, and a table
+# of the blocks would have no room
+for i in {1..1000}; do printf 'XTRA\0\0\0\0'; done >"$room/blocks"
+for i in {1..1000}; do cat "$room/blocks"; done >"$room/section"
+with_section "$room/section" >"$made/many.cs"
+cd "$made" || exit 1
+{
+  printf 'many.cs: accepted: version 6, 1 range cell of 1 Doppler bin, no quality, data at 8000104, 1000000 blocks: XTRA'
+  yes ', XTRA' | head -n 999999 | tr -d '\n'
+  echo
+} >"$room/wanted"
+expect_within 34000 0 judge many.cs <"$room/wanted"
+says ''
+
 exit "$failed"

@@ -117,4 +117,46 @@ for word in six '' -1 6.0 0x6 18446744073709551616; do
   complains "kutsvame: no decimal number: $word"
 done
 
+# a text of ten million bytes: the memory that it takes is that of the file and of one line with it
+{
+  printf 'SITD'
+  word 10000001
+  head -c 10000000 /dev/zero | tr '\0' A
+  printf '\0'
+} >"$room/section"
+with_section "$room/section" >"$made/long.cs"
+cd "$made" || exit 1
+{
+  cat <<'END'
+version 6, read at level 6
+data at 10000113
+range cells 1, Doppler bins 1, first range cell 1, channels 3, no quality
+field 1 nDateTime: 0
+field 2 nCsKind: 1
+field 3 nSiteCodeName: 1212240450 "HARB"
+field 4 nCoverMinutes: 0
+field 5 bDeletedSource: 0
+field 6 bOverrideSrcInfo: 0
+field 7 fStartFreqMHz: 00000000 0
+field 8 fRepFreqHz: 00000000 0
+field 9 fBandwidthKHz: 00000000 0
+field 10 bSweepUp: 0
+field 11 nDopplerCells: 1
+field 12 nRangeCells: 1
+field 13 nFirstRangeCell: 1
+field 14 fRangeCellDistKm: 00000000 0
+field 15 nOutputInterval: 0
+field 16 nCreateTypeCode: 0 "????"
+field 17 nCreatorVersion: 0 "????"
+field 18 nActiveChannels: 0
+field 19 nSpectraChannels: 3
+field 20 nActiveChanBits: 0
+END
+  printf 'block 1 SITD at 104, size 10000001: "'
+  head -c 10000000 /dev/zero | tr '\0' A
+  echo '"'
+} >"$room/wanted"
+expect_within 40500 0 show long.cs <"$room/wanted"
+says ''
+
 exit "$failed"
